@@ -1,0 +1,47 @@
+-- A calculation on lent bytes: what it replies, and the slice table it leaves.
+use mathlib.Core.Bool.{Bool}
+use mathlib.Core.List.{List, [], _∷_}
+use Prim.Native.Nat.{ℕ}
+use lib.ListN.{length}
+use Rattle.rules.specs.declared.Refusal.{Refusal}
+use Rattle.rules.specs.declared.Pile.{Pile}
+use Rattle.rules.specs.declared.Row.{Row}
+use Rattle.rules.specs.declared.Slice.{Slice}
+use Rattle.rules.specs.declared.Answer.{Answer}
+use Rattle.rules.specs.Base.{pick, either, refuses, when, first}
+use Rattle.rules.specs.Limits.{logSize, pileSize, tableSize}
+use Rattle.rules.specs.Packed.{rowsOf, pileOf, tableBytes}
+use Rattle.rules.specs.Checks.{longOther, logChecks, depthOf}
+use Rattle.rules.specs.Ground.{soilAt}
+use Rattle.rules.specs.Answers.{refused, answer, slices}
+
+-- the answer of rows and a pile, and its slices: from the ground alone
+unfoldable pub answerOf : List Row → Pile → Answer
+answerOf rs p = answer (soilAt rs) (depthOf rs) p
+
+unfoldable pub slicesOfRows : List Row → Pile → List Slice
+slicesOfRows rs p = slices (soilAt rs) (depthOf rs) p
+
+-- the answer and the table of a log that passes checks 1 to 4, and a pile record of the right length
+unfoldable pub heldAnswer : List ℕ → List ℕ → Answer
+heldAnswer log pile = answerOf (rowsOf log) (pileOf pile)
+
+unfoldable pub heldTable : List ℕ → List ℕ → List ℕ
+heldTable log pile = tableBytes (slicesOfRows (rowsOf log) (pileOf pile))
+
+-- "1 looks at every lent piece that the call uses"
+abbrev pub lengthsWrong : List ℕ → List ℕ → List ℕ → Bool
+lengthsWrong log pile table = either (longOther logSize log) (either (longOther pileSize pile) (longOther tableSize table))
+
+-- "Checks 1 to 4 are the log checks"
+unfoldable pub lentChecks : List ℕ → List ℕ → List ℕ → Refusal
+lentChecks log pile table = first (when (lengthsWrong log pile table) 1) (logChecks log)
+
+unfoldable pub calculated : List ℕ → List ℕ → List ℕ → Answer
+calculated log pile table =
+    let r = lentChecks log pile table in
+    pick (refuses r) (refused r) (heldAnswer log pile)
+
+-- "a calculation refused by 1 to 4, changes no buffer"; it "never changes the log"
+unfoldable pub tableAfter : List ℕ → List ℕ → List ℕ → List ℕ
+tableAfter log pile table = pick (refuses (lentChecks log pile table)) table (heldTable log pile)

@@ -1,0 +1,101 @@
+-- Friction, factor, and the six roundings.
+use mathlib.Core.Bool.{Bool, true, false}
+use mathlib.Core.List.{List, [], _∷_}
+use Prim.Native.Nat.{ℕ, _+_, _*_, _-_, _/_, max}
+use lib.Dec.{ltb, leb, eqb}
+use Rattle.rules.specs.declared.Soil.{Soil}
+use Rattle.rules.specs.declared.Pile.{Pile}
+use Rattle.rules.specs.declared.Slice.{Slice}
+use Rattle.rules.specs.declared.Place.{Place}
+use Rattle.rules.specs.declared.TipRead.{TipRead}
+use Rattle.rules.specs.declared.TipRead.the-variants.{Dashed, Pascals}
+use Rattle.rules.specs.Base.{pick}
+use Rattle.rules.specs.Pieces.{Piece}
+use Rattle.rules.specs.Tables.{placeOf, frictionDepths, tipDepths, frictionAt, tipAt, dashAt}
+
+-- kinds 1 to 3
+abbrev pub sand : Soil → Bool
+sand s = leb (s .kind) 3
+
+-- "Kinds 1, 2, 3 take columns 0.2, 0.3, 0.4. Kinds 4 to 6 go by liquidity index; below 0.20 the 0.2 column.": hundredths right of column 0.2
+abbrev pub right : Soil → ℕ
+right s = pick (sand s) ((s .kind - 1) * 10) (max 120 (s .index) - 120)
+
+-- "at the slice's mid-depth, which may fall on half a millimetre": in half millimetres
+abbrev pub midOf : Pile → ℕ → ℕ → ℕ
+midOf p top thickness = top + top + thickness
+
+-- "at the tip depth": in millimetres
+abbrev pub tipOf : Pile → ℕ
+tipOf p = p .tip
+
+abbrev pub frictionPlace : Soil → ℕ → Place
+frictionPlace s mid = placeOf frictionDepths 2000 11 7 mid (right s)
+
+-- in 1/200 Pa, at a mid-depth in half millimetres
+unfoldable pub friction : Soil → ℕ → ℕ
+friction s mid = frictionAt (frictionPlace s mid)
+
+-- "method 1, dry or cased: sand, sandy loam, loam 7, clay 6. Method 2, under water or slurry: all 6.
+-- Method 3, stiff mix vibrated at depth, dry: sand, sandy loam, loam 8, clay 7."; in tenths
+unfoldable pub factor : ℕ → ℕ → ℕ
+factor method kind =
+    pick (eqb method 1) (pick (eqb kind 6) 6 7)
+    (pick (eqb method 2) 6
+    (pick (eqb kind 6) 7 8))
+
+-- a piece with its friction and factor: what the table holds
+unfoldable pub sliceOf : Pile → Piece → Slice
+sliceOf p c = record {
+    top = c .top;
+    thickness = c .thickness;
+    friction = friction (c .soil) (midOf p (c .top) (c .thickness));
+    factor = factor (p .method) (c .soil .kind) }
+
+unfoldable pub slicesOf : Pile → List Piece → List Slice
+slicesOf p [] = []
+slicesOf p (c ∷ cs) = sliceOf p c ∷ slicesOf p cs
+
+-- "the sum of friction × thickness × factor": in 1/2,000,000 of a newton per metre
+unfoldable pub total : List Slice → ℕ
+total [] = 0
+total (c ∷ cs) = c .friction * c .thickness * c .factor + total cs
+
+-- "by the liquidity index of the stratum holding the millimetre just below the tip; an index below 0 reads as 0"
+abbrev pub tipPlace : ℕ → ℕ → Place
+tipPlace depth index = placeOf tipDepths 1000 8 5 depth (max 100 index - 100)
+
+-- "1. R to whole Pa.", or the dash where one would be read with a weight above zero
+unfoldable pub tipRead : ℕ → ℕ → TipRead
+tipRead depth index = pick (dashAt (tipPlace depth index)) Dashed (Pascals (tipAt (tipPlace depth index)))
+
+abbrev pub isDash : TipRead → Bool
+isDash Dashed = true
+isDash (Pascals r) = false
+
+abbrev pub pascals : TipRead → ℕ
+pascals Dashed = 0
+pascals (Pascals r) = r
+
+unfoldable pub resistance : Pile → Soil → ℕ
+resistance p s = pascals (tipRead (tipOf p) (s .index))
+
+-- "2. Line: the sum of friction × thickness × factor, to whole N per metre of perimeter."
+abbrev pub lineOf : List Slice → ℕ
+lineOf cs = total cs / 2000000
+
+-- "3. Tip: R × area, to whole N."; "Pi is 3.14159"
+unfoldable pub tipForce : Pile → ℕ → ℕ
+tipForce p r = pick (eqb (p .section) 1) (r * p .a * p .a * 314159 / 400000000000) (r * p .a * p .b / 1000000)
+
+-- "4. Shaft: line × perimeter, to whole N."
+unfoldable pub shaftForce : Pile → ℕ → ℕ
+shaftForce p line = pick (eqb (p .section) 1) (line * p .a * 314159 / 100000000) (line * (p .a + p .b) * 2 / 1000)
+
+-- "5. Capacity: (tip + shaft) × 0.8 if the tip stratum's saturation is under 90, else × 1; to whole N."
+unfoldable pub capacityOf : Soil → ℕ → ℕ
+capacityOf s n = pick (ltb (s .saturation) 90) (n * 8 / 10) n
+
+-- "6. Uplift: shaft × 0.6 if tip less head is under 4,000, else × 0.8; to whole N."
+unfoldable pub upliftOf : Pile → ℕ → ℕ
+upliftOf p n = pick (ltb (p .tip - p .head) 4000) (n * 6 / 10) (n * 8 / 10)

@@ -1,0 +1,68 @@
+-- Reading and packing by themselves. "Reading or packing a log by itself checks 1 to 3, a pile record 1, 5 and 6, and no more"
+use mathlib.Core.Bool.{Bool, true, false}
+use mathlib.Core.List.{List, [], _∷_}
+use Prim.Native.Nat.{ℕ, zero, suc, _+_, _*_}
+use lib.Dec.{ltb, leb, eqb}
+use lib.ListN.{length, getD, take, drop, replicate}
+use Rattle.rules.specs.declared.Refusal.{Refusal}
+use Rattle.rules.specs.declared.Row.{Row}
+use Rattle.rules.specs.declared.Log.{Log}
+use Rattle.rules.specs.declared.Pile.{Pile}
+use Rattle.rules.specs.declared.Slice.{Slice}
+use Rattle.rules.specs.declared.LogRead.{LogRead}
+use Rattle.rules.specs.declared.PileRead.{PileRead}
+use Rattle.rules.specs.declared.SliceRead.{SliceRead}
+use Rattle.rules.specs.Base.{pick, both, either, neg, refuses, when, first}
+use Rattle.rules.specs.Limits.{rowLimit, placeLimit, logSize, pileSize, tableSize}
+use Rattle.rules.specs.Packed.{logOf, pileOf, sliceAt, noRow, logBytes, pileBytes}
+use Rattle.rules.specs.Checks.{longOther, countWrong, fieldChecks, firstWrong, pileChecks}
+
+-- "a refused reading gives zero fields"
+abbrev pub noLog : Log
+noLog = record { count = 0; rows = replicate rowLimit noRow }
+
+abbrev pub noPile : Pile
+noPile = record { section = 0; a = 0; b = 0; method = 0; head = 0; tip = 0; zero = 0 }
+
+abbrev pub noSlice : Slice
+noSlice = record { top = 0; thickness = 0; friction = 0; factor = 0 }
+
+unfoldable pub readLog : List ℕ → LogRead
+readLog s =
+    let r = first (when (longOther logSize s) 1) (fieldChecks s) in
+    record { refusal = r; log = pick (refuses r) noLog (logOf s) }
+
+unfoldable pub readPile : List ℕ → PileRead
+readPile s =
+    let r = first (when (longOther pileSize s) 1) (pileChecks (pileOf s)) in
+    record { refusal = r; pile = pick (refuses r) noPile (pileOf s) }
+
+-- one place of a slice table, counted from 0; past the last: all zero
+unfoldable pub readSlice : List ℕ → ℕ → SliceRead
+readSlice s i =
+    let here = pick (ltb i placeLimit) (sliceAt s i) noSlice in
+    pick (longOther tableSize s) (record { refusal = 1; slice = noSlice }) (record { refusal = 0; slice = here })
+
+abbrev pub rowZero : Row → Bool
+rowZero r = both (eqb (r .thickness) 0) (both (eqb (r .kind) 0) (both (eqb (r .index) 0) (both (eqb (r .saturation) 0) (eqb (r .zero) 0))))
+
+unfoldable pub rowsZero : List Row → Bool
+rowsZero [] = true
+rowsZero (r ∷ rs) = let on = rowsZero rs in both (rowZero r) on
+
+-- 2 of fields that are packed
+unfoldable pub unusedFields : Log → Bool
+unusedFields l = let blank = rowsZero (drop (l .count) (take rowLimit (l .rows))) in either (countWrong (l .count)) (neg blank)
+
+unfoldable pub packLogCheck : Log → List ℕ → Refusal
+packLogCheck l s = first (when (longOther logSize s) 1) (first (when (unusedFields l) 2) (firstWrong 1 (take (l .count) (l .rows))))
+
+-- "a refused packing changes no buffer"
+unfoldable pub packedLog : Log → List ℕ → List ℕ
+packedLog l s = pick (refuses (packLogCheck l s)) s (logBytes l)
+
+unfoldable pub packPileCheck : Pile → List ℕ → Refusal
+packPileCheck p s = first (when (longOther pileSize s) 1) (pileChecks p)
+
+unfoldable pub packedPile : Pile → List ℕ → List ℕ
+packedPile p s = pick (refuses (packPileCheck p s)) s (pileBytes p)

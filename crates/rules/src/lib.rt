@@ -1,0 +1,108 @@
+// The things document 01 speaks of, as types: soil, row, log, pile, slice, refusal, answer, and the cells of a table.
+// Every other crate, and every definition in specs/, uses these.
+
+// Refusal number, row and field; all 0 where nothing is refused.
+#[repr(C)]
+pub struct Refusal {
+    pub number: u32,
+    pub row: u32,
+    pub field: u32,
+}
+
+// A row of a log, its five fields in order. The index is stored as hundredths plus 100.
+#[repr(C)]
+pub struct Row {
+    pub thickness: u16,
+    pub kind: u8,
+    pub index: u8,
+    pub saturation: u8,
+    pub zero: u8,
+}
+
+// A log: how many rows are used, and all 64 places.
+#[repr(C)]
+pub struct Log {
+    pub count: u8,
+    pub rows: [Row; 64],
+}
+
+// A pile record, its fields in order.
+#[repr(C)]
+pub struct Pile {
+    pub section: u8,
+    pub a: u16,
+    pub b: u16,
+    pub method: u8,
+    pub head: u16,
+    pub tip: u16,
+    pub zero: u8,
+}
+
+// A slice as the table holds it: friction in 1/200 Pa, factor in tenths.
+#[repr(C)]
+pub struct Slice {
+    pub top: u16,
+    pub thickness: u16,
+    pub friction: u32,
+    pub factor: u8,
+}
+
+// What reading a log, a pile record or a place of a slice table replies.
+#[repr(C)]
+pub struct LogRead {
+    pub refusal: Refusal,
+    pub log: Log,
+}
+
+#[repr(C)]
+pub struct PileRead {
+    pub refusal: Refusal,
+    pub pile: Pile,
+}
+
+#[repr(C)]
+pub struct SliceRead {
+    pub refusal: u32,
+    pub slice: Slice,
+}
+
+// What a calculation or an edit replies: line in N/m, the other four in N.
+#[repr(C)]
+pub struct Answer {
+    pub refusal: Refusal,
+    pub kept: u32,
+    pub line: u64,
+    pub tip: u64,
+    pub shaft: u64,
+    pub capacity: u64,
+    pub uplift: u64,
+}
+
+// What makes two millimetres one stratum.
+pub struct Soil {
+    pub kind: u8,
+    pub index: u8,
+    pub saturation: u8,
+}
+
+// A cell of the tip table: a dash, or kPa.
+pub enum Cell {
+    Dash,
+    Kpa(u64),
+}
+
+// What the tip table is read to: a dash with a weight above zero, or R in whole Pa.
+pub enum TipRead {
+    Dashed,
+    Pascals(u64),
+}
+
+// Where a reading stands in a table: row and column of the upper left of four cells, and the weights of the lower row
+// and the right column: down parts of span, and across parts of ten.
+pub struct Place {
+    pub row: usize,
+    pub column: usize,
+    pub down: u64,
+    pub span: u64,
+    pub across: u64,
+}
