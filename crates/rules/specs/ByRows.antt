@@ -5,10 +5,16 @@ use Prim.Native.Nat.{ℕ, zero, suc, _+_, _-_, _<_, min}
 use lib.Dec.{ltb}
 use Rattle.rules.specs.declared.Row.{Row}
 use Rattle.rules.specs.declared.Soil.{Soil}
+use Rattle.rules.specs.declared.Pile.{Pile}
+use Rattle.rules.specs.declared.Slice.{Slice}
+use Rattle.rules.specs.declared.Answer.{Answer}
 use Rattle.rules.specs.Base.{pick}
 use Rattle.rules.specs.Limits.{sliceLimit}
+use Rattle.rules.specs.Checks.{depthOf}
 use Rattle.rules.specs.Ground.{same, none, soilOf, soilAt}
 use Rattle.rules.specs.Pieces.{Piece, piece}
+use Rattle.rules.specs.Numbers.{slicesOf}
+use Rattle.rules.specs.Answers.{answerFrom, slicesFrom}
 
 abbrev pub Positive : List Row → Type 0
 Positive [] = Unit {0}
@@ -49,3 +55,13 @@ topFrom (r ∷ rs) s q b m =
 
 abbrev pub topAt : List Row → ℕ → ℕ
 topAt rs m = topFrom rs none 0 0 m
+
+-- the answer and the slices of rows and a pile, worked out along the rows
+abbrev pub cutsOf : List Row → Pile → List Slice
+cutsOf rs p = slicesOf p (cuts rs (p .tip - p .head) (p .head) (p .tip - p .head))
+
+unfoldable pub answerRows : List Row → Pile → Answer
+answerRows rs p = answerFrom (depthOf rs) (soilAt rs (p .tip)) (topAt rs (p .tip)) (cutsOf rs p) p
+
+unfoldable pub slicesRows : List Row → Pile → List Slice
+slicesRows rs p = slicesFrom (depthOf rs) (soilAt rs (p .tip)) (topAt rs (p .tip)) (cutsOf rs p) p

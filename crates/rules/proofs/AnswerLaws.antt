@@ -1,0 +1,86 @@
+-- The answer and the slices by rows are those by millimetres; only millimetres matter.
+use mathlib.Core.Path.{_≡_, refl, sym, _∙_, ap, ap₂}
+use mathlib.Core.Bool.{Bool, true, false}
+use mathlib.Core.Logic.{_⊎_, inl, inr, ⊎-elim}
+use mathlib.Core.List.{List, [], _∷_}
+use Prim.Native.Nat.{ℕ, zero, suc, _+_, _-_, _<_, _≤_}
+use native.Mathlib.Omega.{arith}
+use lib.Dec.{ltb, leb}
+use borrow.Author.Tests.{ltb-false, leb-false}
+use Rattle.rules.specs.declared.Soil.{Soil}
+use Rattle.rules.specs.declared.Row.{Row}
+use Rattle.rules.specs.declared.Pile.{Pile}
+use Rattle.rules.specs.declared.Slice.{Slice}
+use Rattle.rules.specs.declared.Answer.{Answer}
+use Rattle.rules.specs.Base.{pick, either, refuses, first, when}
+use Rattle.rules.specs.Checks.{pileChecks, depthOf}
+use Rattle.rules.specs.Ground.{soilAt, Agree}
+use Rattle.rules.specs.Pieces.{Piece, pieces, runTop}
+use Rattle.rules.specs.Numbers.{slicesOf}
+use Rattle.rules.specs.Answers.{depthsWrong, logShort, early, late, checksFrom, answerFrom, slicesFrom, answer, slices}
+use Rattle.rules.specs.Calculation.{answerOf, slicesOfRows}
+use Rattle.rules.specs.ByRows.{Positive, cuts, cutsOf, topAt, answerRows, slicesRows}
+use Rattle.rules.proofs.Basics.{sure}
+use Rattle.rules.proofs.RefusalLaws.{first-left, first-off, when-off, either-left, either-right}
+use Rattle.rules.proofs.GroundLaws.{one-ground}
+use Rattle.rules.proofs.RowLaws.{by-rows}
+use Rattle.rules.proofs.SeatLaws.{top-is}
+
+-- what holds where 5 to 8 refuse nothing
+pub record Clear (depth : ℕ) (p : Pile) : Type 0 where
+  pub good : refuses (pileChecks p) ≡ false
+  pub order : p .head < p .tip
+  pub far : 3000 ≤ p .tip
+  pub near : p .tip ≤ 40000
+  pub deep : p .tip + 5000 ≤ depth
+
+pub clear : (depth : ℕ) (p : Pile) → refuses (early depth p) ≡ false → Clear depth p
+unfolding early
+clear depth p e =
+    let r = first-off (pileChecks p) (first (when (depthsWrong p) 7) (when (logShort depth p) 8)) e in
+    let q = first-off (when (depthsWrong p) 7) (when (logShort depth p) 8) (r .1) in
+    let a : depthsWrong p ≡ false = when-off 6 (depthsWrong p) (q .0) in
+    let b : either (ltb (p .tip) 3000) (ltb 40000 (p .tip)) ≡ false = either-right (leb (p .tip) (p .head)) _ a in
+    record {
+      good = r .0;
+      order = leb-false (p .tip) (p .head) (either-left _ _ a);
+      far = ltb-false (p .tip) 3000 (either-left _ _ b);
+      near = ltb-false 40000 (p .tip) (either-right (ltb (p .tip) 3000) _ b);
+      deep = ltb-false depth (p .tip + 5000) (when-off 7 (logShort depth p) (q .1)) }
+
+-- a refusal by 5 to 8 asks for nothing else
+early-alone : (depth : ℕ) (at at′ : Soil) (top top′ : ℕ) (cut cut′ : List Slice) (p : Pile) → refuses (early depth p) ≡ true
+  → (answerFrom depth at top cut p ≡ answerFrom depth at′ top′ cut′ p) × (slicesFrom depth at top cut p ≡ slicesFrom depth at′ top′ cut′ p)
+unfolding answerFrom slicesFrom checksFrom first
+early-alone depth at at′ top top′ cut cut′ p h = (simp h, simp h)
+
+module _ (rs : List Row) (p : Pile) (w : Positive rs) where
+  pub cuts-are : Clear (depthOf rs) p → cutsOf rs p ≡ slicesOf p (pieces (soilAt rs) (p .head) (p .tip))
+  unfolding pieces
+  cuts-are c = ap (slicesOf p) (by-rows rs (p .tip - p .head) (p .head) (p .tip - p .head) w (omega arith) (omega (arith, c .order, c .deep)))
+
+  both-rows : (answerRows rs p ≡ answerOf rs p) × (slicesRows rs p ≡ slicesOfRows rs p)
+  unfolding answerRows answerOf answer slicesRows slicesOfRows slices
+  both-rows =
+      ⊎-elim
+      (λ (h : refuses (early (depthOf rs) p) ≡ true). early-alone (depthOf rs) _ _ _ _ _ _ p h)
+      (λ (h : refuses (early (depthOf rs) p) ≡ false).
+        let c : Clear (depthOf rs) p = clear (depthOf rs) p h in
+        let t : topAt rs (p .tip) ≡ runTop (soilAt rs) (soilAt rs (p .tip)) (p .tip) = top-is rs (p .tip) w (omega (arith, c .deep)) in
+        (ap₂ (λ (t : ℕ) (l : List Slice). answerFrom (depthOf rs) (soilAt rs (p .tip)) t l p) t (cuts-are c),
+         ap₂ (λ (t : ℕ) (l : List Slice). slicesFrom (depthOf rs) (soilAt rs (p .tip)) t l p) t (cuts-are c)))
+      (sure (refuses (early (depthOf rs) p)))
+
+  -- typing does not matter: the answer along the rows is the answer of the ground
+  pub answer-by-rows : answerRows rs p ≡ answerOf rs p
+  answer-by-rows = both-rows .0
+
+  pub slices-by-rows : slicesRows rs p ≡ slicesOfRows rs p
+  slices-by-rows = both-rows .1
+
+-- Two logs that are equally deep and agree at every millimetre have equal answers and equal slices for the same pile record.
+pub only-millimetres : (rs ts : List Row) (p : Pile) → Agree rs ts → (answerOf rs p ≡ answerOf ts p) × (slicesOfRows rs p ≡ slicesOfRows ts p)
+unfolding answerOf slicesOfRows
+only-millimetres rs ts p h =
+    (ap₂ (λ (g : ℕ → Soil) (d : ℕ). answer g d p) (one-ground rs ts h) (h .0),
+     ap₂ (λ (g : ℕ → Soil) (d : ℕ). slices g d p) (one-ground rs ts h) (h .0))

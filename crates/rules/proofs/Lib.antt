@@ -1,0 +1,9 @@
+-- Laws of the definitions.
+pub mod Basics
+pub mod RefusalLaws
+pub mod GroundLaws
+pub mod PieceLaws
+pub mod FitLaws
+pub mod RowLaws
+pub mod SeatLaws
+pub mod AnswerLaws
