@@ -7,3 +7,4 @@ pub mod FitLaws
 pub mod RowLaws
 pub mod SeatLaws
 pub mod AnswerLaws
+pub mod Known

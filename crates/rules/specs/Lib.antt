@@ -14,3 +14,4 @@ pub mod Edits
 pub mod Runs
 pub mod Sheet
 pub mod ByRows
+pub mod Cases

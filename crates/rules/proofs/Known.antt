@@ -1,0 +1,116 @@
+-- Cases A to L of document 01 hold of the definitions: one table, one theorem.
+use mathlib.Core.Path.{_≡_, refl, sym, _∙_, ap, ap₂}
+use mathlib.Core.Bool.{Bool, true, false}
+use mathlib.Core.List.{List, [], _∷_, map, _++_}
+use Prim.Native.Nat.{ℕ, zero, suc, _<_}
+use lib.Dec.{ltb, T, ltb→lt}
+use lib.ListN.{take, drop}
+use Rattle.rules.specs.declared.Row.{Row}
+use Rattle.rules.specs.declared.Pile.{Pile}
+use Rattle.rules.specs.declared.Slice.{Slice}
+use Rattle.rules.specs.declared.Answer.{Answer}
+use Rattle.rules.specs.Base.{pick, both, refuses, when, first, allZero}
+use Rattle.rules.specs.Limits.{sliceSize, logSize}
+use Rattle.rules.specs.Packed.{bitsAt, rowsFrom, rowsOf, pileOf, rowBytes, pileBytes, sliceBytes, placesBytes, logBytes, slicesBytes, tableBytes}
+use Rattle.rules.specs.Checks.{unusedWrong, wrongField, firstWrong, depthOf, fieldChecks, logChecks, wrongPart, sectionCheck, pileChecks}
+use Rattle.rules.specs.Ground.{same, soilAt}
+use Rattle.rules.specs.Tables.{rowFor, placeOf, weighed, frictionAt, dashAt, tipAt}
+use Rattle.rules.specs.Numbers.{friction, factor, sliceOf, slicesOf, total, tipRead, resistance, tipForce, shaftForce, capacityOf, upliftOf}
+use Rattle.rules.specs.Answers.{early, late, checksFrom, refused, numbers, answerFrom, slicesFrom}
+use Rattle.rules.specs.Calculation.{answerOf, slicesOfRows, heldAnswer, heldTable, lentChecks, calculated, tableAfter}
+use Rattle.rules.specs.Sheet.{digitsFrom, spaced, answerLine, sliceLine, sliceLines, totalLine, sheetOf, sheetText}
+use Rattle.rules.specs.ByRows.{Positive, lead, extent, cuts, topFrom, answerRows, slicesRows}
+use Rattle.rules.specs.Cases.{Shown, five, kPa, only, bars, packedLog, packedPile, firstSlice, sheet, Case, joined, logIn, blankTable, resistanceIn, fiveOf, barOf, worked, work, print, cases}
+use Rattle.rules.proofs.AnswerLaws.{answer-by-rows, slices-by-rows}
+
+abbrev positive : List Row → Bool
+positive [] = true
+positive (r ∷ rs) = both (ltb 0 (r .thickness)) (positive rs)
+
+both-left : (a b : Bool) → T (both a b) → T a
+both-left true b t = tt
+both-left false b t = t
+
+both-right : (a b : Bool) → T (both a b) → T b
+both-right true b t = t
+both-right false b t = absurd t
+
+are-positive : (rs : List Row) → T (positive rs) → Positive rs
+are-positive [] t = tt
+are-positive (r ∷ rs) t = (ltb→lt 0 (r .thickness) (both-left (ltb 0 (r .thickness)) (positive rs) t), are-positive rs (both-right (ltb 0 (r .thickness)) (positive rs) t))
+
+-- a calculation, its table and its sheet with the work done along the rows
+abbrev calculatedRows : List ℕ → List ℕ → List ℕ → Answer
+calculatedRows log pile table = let r = lentChecks log pile table in pick (refuses r) (refused r) (answerRows (rowsOf log) (pileOf pile))
+
+abbrev tableRows : List ℕ → List ℕ → List ℕ → List ℕ
+tableRows log pile table = pick (refuses (lentChecks log pile table)) table (tableBytes (slicesRows (rowsOf log) (pileOf pile)))
+
+module _ (log pile table : List ℕ) (w : Positive (rowsOf log)) where
+  calculated-rows : calculated log pile table ≡ calculatedRows log pile table
+  unfolding calculated heldAnswer
+  calculated-rows = let r = lentChecks log pile table in ap (λ (a : Answer). pick (refuses r) (refused r) a) (sym (answer-by-rows (rowsOf log) (pileOf pile) w))
+
+  table-rows : tableAfter log pile table ≡ tableRows log pile table
+  unfolding tableAfter heldTable
+  table-rows = ap (λ (l : List Slice). pick (refuses (lentChecks log pile table)) table (tableBytes l)) (sym (slices-by-rows (rowsOf log) (pileOf pile) w))
+
+  slices-rows : slicesOfRows (rowsOf log) (pileOf pile) ≡ slicesRows (rowsOf log) (pileOf pile)
+  slices-rows = sym (slices-by-rows (rowsOf log) (pileOf pile) w)
+
+abbrev sheetRows : List ℕ → List ℕ
+sheetRows input = sheetOf (calculatedRows (take logSize input) (drop logSize input) blankTable) (slicesRows (rowsOf (take logSize input)) (pileOf (drop logSize input)))
+
+sheet-rows : (input : List ℕ) → Positive (rowsOf (take logSize input)) → sheetText input ≡ sheetRows input
+unfolding sheetText
+sheet-rows input w = ap₂ sheetOf (calculated-rows (take logSize input) (drop logSize input) blankTable w) (slices-rows (take logSize input) (drop logSize input) blankTable w)
+
+abbrev rowed : Shown → List Row → Pile → List ℕ
+rowed (five l t s c u) rs p = fiveOf (calculatedRows (logIn rs) (pileBytes p) blankTable)
+rowed (kPa r) rs p = calculatedRows (logIn rs) (pileBytes p) blankTable .refusal .number ∷ resistanceIn rs p ∷ []
+rowed (only n) rs p = calculatedRows (logIn rs) (pileBytes p) blankTable .refusal .number ∷ []
+rowed (bars l) rs p = calculatedRows (logIn rs) (pileBytes p) blankTable .refusal .number ∷ joined (map barOf (slicesRows (rowsOf (logIn rs)) (pileOf (pileBytes p))))
+rowed (packedLog l) rs p = logIn rs
+rowed (packedPile l) rs p = pileBytes p
+rowed (firstSlice l) rs p = take sliceSize (tableRows (logIn rs) (pileBytes p) blankTable)
+rowed (sheet l) rs p = sheetRows (logIn rs ++ pileBytes p)
+
+row-work : (s : Shown) (rs : List Row) (p : Pile) → Positive (rowsOf (logIn rs)) → Positive (rowsOf (take logSize (logIn rs ++ pileBytes p))) → worked s rs p ≡ rowed s rs p
+row-work (five l t s c u) rs p w v = ap fiveOf (calculated-rows (logIn rs) (pileBytes p) blankTable w)
+row-work (kPa r) rs p w v = ap (λ (a : Answer). a .refusal .number ∷ resistanceIn rs p ∷ []) (calculated-rows (logIn rs) (pileBytes p) blankTable w)
+row-work (only n) rs p w v = ap (λ (a : Answer). a .refusal .number ∷ []) (calculated-rows (logIn rs) (pileBytes p) blankTable w)
+row-work (bars l) rs p w v =
+    ap₂ (λ (a : Answer) (t : List Slice). a .refusal .number ∷ joined (map barOf t)) (calculated-rows (logIn rs) (pileBytes p) blankTable w) (slices-rows (logIn rs) (pileBytes p) blankTable w)
+row-work (packedLog l) rs p w v = refl
+row-work (packedPile l) rs p w v = refl
+row-work (firstSlice l) rs p w v = ap (take sliceSize) (table-rows (logIn rs) (pileBytes p) blankTable w)
+row-work (sheet l) rs p w v = sheet-rows (logIn rs ++ pileBytes p) v
+
+abbrev ready : List Case → Bool
+ready [] = true
+ready (c ∷ cs) = both (both (positive (rowsOf (logIn (c .rows)))) (positive (rowsOf (take logSize (logIn (c .rows) ++ pileBytes (c .pile)))))) (ready cs)
+
+abbrev rowWork : Case → List ℕ
+rowWork c = rowed (c .shown) (c .rows) (c .pile)
+
+all-rows : (cs : List Case) → T (ready cs) → map work cs ≡ map rowWork cs
+all-rows [] t = refl
+all-rows (c ∷ cs) t =
+    let a : List Row = rowsOf (logIn (c .rows)) in
+    let b : List Row = rowsOf (take logSize (logIn (c .rows) ++ pileBytes (c .pile))) in
+    let h : T (both (positive a) (positive b)) = both-left (both (positive a) (positive b)) (ready cs) t in
+    ap₂ (λ (x : List ℕ) (xs : List (List ℕ)). x ∷ xs)
+      (row-work (c .shown) (c .rows) (c .pile) (are-positive a (both-left (positive a) (positive b) h)) (are-positive b (both-right (positive a) (positive b) h)))
+      (all-rows cs (both-right (both (positive a) (positive b)) (ready cs) t))
+
+all-ready : T (ready cases)
+unfolding bitsAt rowsFrom rowsOf rowBytes placesBytes logBytes pileBytes
+all-ready = tt
+
+by-computing : map rowWork cases ≡ map print cases
+unfolding when first allZero bitsAt rowsFrom rowsOf pileOf rowBytes pileBytes sliceBytes placesBytes logBytes slicesBytes tableBytes unusedWrong wrongField firstWrong depthOf fieldChecks logChecks wrongPart sectionCheck pileChecks same soilAt rowFor placeOf weighed frictionAt dashAt tipAt friction factor sliceOf slicesOf total tipRead resistance tipForce shaftForce capacityOf upliftOf early late checksFrom numbers answerFrom slicesFrom lentChecks digitsFrom spaced answerLine sliceLine sliceLines totalLine sheetOf lead extent cuts topFrom answerRows slicesRows
+by-computing = refl
+
+-- Every number that document 01 prints for its cases A to L is what the definitions give.
+pub known-numbers : map work cases ≡ map print cases
+known-numbers = all-rows cases all-ready ∙ by-computing

@@ -1,0 +1,164 @@
+-- Cases A to L of document 01, "The sheet program and known numbers": what the paper prints, and what the definitions give.
+use mathlib.Core.List.{List, [], _∷_, _++_, map}
+use Prim.Native.Nat.{ℕ, _+_, _*_, _-_}
+use lib.ListN.{length, take, replicate}
+use Rattle.rules.specs.declared.Row.{Row}
+use Rattle.rules.specs.declared.Pile.{Pile}
+use Rattle.rules.specs.declared.Slice.{Slice}
+use Rattle.rules.specs.declared.Answer.{Answer}
+use Rattle.rules.specs.Limits.{sliceSize, tableSize}
+use Rattle.rules.specs.Packed.{rowsOf, pileOf, logBytes, pileBytes}
+use Rattle.rules.specs.Ground.{soilAt}
+use Rattle.rules.specs.Numbers.{resistance}
+use Rattle.rules.specs.Calculation.{calculated, tableAfter, slicesOfRows}
+use Rattle.rules.specs.Sheet.{sheetText}
+
+-- what the paper gives of a case
+pub data Shown : Type 0 where
+  -- line, tip, shaft, capacity, uplift
+  five : ℕ → ℕ → ℕ → ℕ → ℕ → Shown
+  -- R in kPa, accepted
+  kPa : ℕ → Shown
+  -- the refusal number alone; 0 is accepted
+  only : ℕ → Shown
+  -- the slices: top, thickness, friction, factor
+  bars : List (List ℕ) → Shown
+  -- the packed log, the pile record, the first slice in the table
+  packedLog : List ℕ → Shown
+  packedPile : List ℕ → Shown
+  firstSlice : List ℕ → Shown
+  -- the whole sheet, in ASCII
+  sheet : List ℕ → Shown
+
+pub record Case : Type 0 where
+  pub rows : List Row
+  pub pile : Pile
+  pub shown : Shown
+
+abbrev pub joined : List (List ℕ) → List ℕ
+joined [] = []
+joined (l ∷ ls) = l ++ joined ls
+
+abbrev pub printed : Shown → List ℕ
+printed (five l t s c u) = 0 ∷ l ∷ t ∷ s ∷ c ∷ u ∷ []
+printed (kPa r) = 0 ∷ r * 1000 ∷ []
+printed (only n) = n ∷ []
+printed (bars l) = 0 ∷ joined l
+printed (packedLog l) = l
+printed (packedPile l) = l
+printed (firstSlice l) = l
+printed (sheet l) = l
+
+-- the packed bytes of a case, and a table to fill
+abbrev pub logIn : List Row → List ℕ
+logIn rs = logBytes (record { count = length rs; rows = rs })
+
+abbrev pub blankTable : List ℕ
+blankTable = replicate tableSize 0
+
+abbrev pub answerIn : List Row → Pile → Answer
+answerIn rs p = calculated (logIn rs) (pileBytes p) blankTable
+
+abbrev pub slicesIn : List Row → Pile → List Slice
+slicesIn rs p = slicesOfRows (rowsOf (logIn rs)) (pileOf (pileBytes p))
+
+abbrev pub resistanceIn : List Row → Pile → ℕ
+resistanceIn rs p = resistance (pileOf (pileBytes p)) (soilAt (rowsOf (logIn rs)) (p .tip))
+
+abbrev pub fiveOf : Answer → List ℕ
+fiveOf a = a .refusal .number ∷ a .line ∷ a .tip ∷ a .shaft ∷ a .capacity ∷ a .uplift ∷ []
+
+abbrev pub barOf : Slice → List ℕ
+barOf c = c .top ∷ c .thickness ∷ c .friction ∷ c .factor ∷ []
+
+-- the same, worked out by the definitions, from the packed bytes
+abbrev pub worked : Shown → List Row → Pile → List ℕ
+worked (five l t s c u) rs p = fiveOf (answerIn rs p)
+worked (kPa r) rs p = answerIn rs p .refusal .number ∷ resistanceIn rs p ∷ []
+worked (only n) rs p = answerIn rs p .refusal .number ∷ []
+worked (bars l) rs p = answerIn rs p .refusal .number ∷ joined (map barOf (slicesIn rs p))
+worked (packedLog l) rs p = logIn rs
+worked (packedPile l) rs p = pileBytes p
+worked (firstSlice l) rs p = take sliceSize (tableAfter (logIn rs) (pileBytes p) blankTable)
+worked (sheet l) rs p = sheetText (logIn rs ++ pileBytes p)
+
+abbrev pub work : Case → List ℕ
+work c = worked (c .shown) (c .rows) (c .pile)
+
+abbrev pub print : Case → List ℕ
+print c = printed (c .shown)
+
+abbrev pub row : ℕ → ℕ → ℕ → ℕ → Row
+row t k i w = record { thickness = t; kind = k; index = i; saturation = w; zero = 0 }
+
+abbrev pub case : List Row → Pile → Shown → Case
+case r p s = record { rows = r; pile = p; shown = s }
+
+-- clay of saturation 95 and this index, in hundredths plus 100
+abbrev pub clay : ℕ → ℕ → List Row
+clay t i = row t 6 i 95 ∷ []
+
+-- fine sand, its saturation that of the clay
+abbrev pub fineSand : ℕ → Row
+fineSand t = row t 2 100 95
+
+-- circle 600, head 1,000
+abbrev pub circle : ℕ → ℕ → Pile
+circle m t = record { section = 1; a = 600; b = 0; method = m; head = 1000; tip = t; zero = 0 }
+
+abbrev pub pileA : Pile
+pileA = circle 1 10000
+
+abbrev pub rectangle : ℕ → ℕ → Pile
+rectangle a b = record { section = 2; a = a; b = b; method = 1; head = 1000; tip = 10000; zero = 0 }
+
+abbrev pub sheetA : List ℕ
+sheetA =
+    (97 ∷ 110 ∷ 115 ∷ 119 ∷ 101 ∷ 114 ∷ 32 ∷ 48 ∷ 32 ∷ 48 ∷ 32 ∷ 48 ∷ 10 ∷ []) ++
+    (115 ∷ 108 ∷ 105 ∷ 99 ∷ 101 ∷ 32 ∷ 49 ∷ 48 ∷ 48 ∷ 48 ∷ 32 ∷ 50 ∷ 48 ∷ 48 ∷ 48 ∷ 32 ∷ 54 ∷ 48 ∷ 48 ∷ 48 ∷ 48 ∷ 48 ∷ 48 ∷ 32 ∷ 54 ∷ 10 ∷ []) ++
+    (115 ∷ 108 ∷ 105 ∷ 99 ∷ 101 ∷ 32 ∷ 51 ∷ 48 ∷ 48 ∷ 48 ∷ 32 ∷ 50 ∷ 48 ∷ 48 ∷ 48 ∷ 32 ∷ 55 ∷ 54 ∷ 48 ∷ 48 ∷ 48 ∷ 48 ∷ 48 ∷ 32 ∷ 54 ∷ 10 ∷ []) ++
+    (115 ∷ 108 ∷ 105 ∷ 99 ∷ 101 ∷ 32 ∷ 53 ∷ 48 ∷ 48 ∷ 48 ∷ 32 ∷ 50 ∷ 48 ∷ 48 ∷ 48 ∷ 32 ∷ 56 ∷ 52 ∷ 48 ∷ 48 ∷ 48 ∷ 48 ∷ 48 ∷ 32 ∷ 54 ∷ 10 ∷ []) ++
+    (115 ∷ 108 ∷ 105 ∷ 99 ∷ 101 ∷ 32 ∷ 55 ∷ 48 ∷ 48 ∷ 48 ∷ 32 ∷ 50 ∷ 48 ∷ 48 ∷ 48 ∷ 32 ∷ 56 ∷ 56 ∷ 48 ∷ 48 ∷ 48 ∷ 48 ∷ 48 ∷ 32 ∷ 54 ∷ 10 ∷ []) ++
+    (115 ∷ 108 ∷ 105 ∷ 99 ∷ 101 ∷ 32 ∷ 57 ∷ 48 ∷ 48 ∷ 48 ∷ 32 ∷ 49 ∷ 48 ∷ 48 ∷ 48 ∷ 32 ∷ 57 ∷ 49 ∷ 48 ∷ 48 ∷ 48 ∷ 48 ∷ 48 ∷ 32 ∷ 54 ∷ 10 ∷ []) ++
+    (116 ∷ 111 ∷ 116 ∷ 97 ∷ 108 ∷ 32 ∷ 50 ∷ 49 ∷ 50 ∷ 49 ∷ 48 ∷ 48 ∷ 32 ∷ 50 ∷ 54 ∷ 56 ∷ 54 ∷ 48 ∷ 53 ∷ 32 ∷ 51 ∷ 57 ∷ 57 ∷ 55 ∷ 57 ∷ 56 ∷ 32 ∷ 54 ∷ 54 ∷ 56 ∷ 52 ∷ 48 ∷ 51 ∷ 32 ∷ 51 ∷ 49 ∷ 57 ∷ 56 ∷ 51 ∷ 56 ∷ 10 ∷ [])
+
+abbrev pub barsA : List (List ℕ)
+barsA = (1000 ∷ 2000 ∷ 6000000 ∷ 6 ∷ []) ∷ (3000 ∷ 2000 ∷ 7600000 ∷ 6 ∷ []) ∷ (5000 ∷ 2000 ∷ 8400000 ∷ 6 ∷ []) ∷ (7000 ∷ 2000 ∷ 8800000 ∷ 6 ∷ []) ∷ (9000 ∷ 1000 ∷ 9100000 ∷ 6 ∷ []) ∷ []
+
+abbrev pub cases : List Case
+cases =
+    -- A: one clay row, 20,000 mm, index 0.30, saturation 95; circle 600, method 1, head 1,000, tip 10,000
+    case (clay 20000 130) pileA (packedLog ((1 ∷ 78 ∷ 32 ∷ 208 ∷ 87 ∷ 192 ∷ []) ++ replicate 315 0)) ∷
+    case (clay 20000 130) pileA (packedPile (73 ∷ 96 ∷ 0 ∷ 16 ∷ 62 ∷ 130 ∷ 113 ∷ 0 ∷ [])) ∷
+    case (clay 20000 130) pileA (five 212100 268605 399798 668403 319838) ∷
+    case (clay 20000 130) pileA (bars barsA) ∷
+    case (clay 20000 130) pileA (firstSlice (3 ∷ 232 ∷ 250 ∷ 5 ∷ 184 ∷ 216 ∷ 6 ∷ [])) ∷
+    case (clay 20000 130) pileA (sheet sheetA) ∷
+    -- B: forty rows of 500
+    case (replicate 40 (row 500 6 130 95)) pileA (five 212100 268605 399798 668403 319838) ∷
+    case (replicate 40 (row 500 6 130 95)) pileA (bars barsA) ∷
+    -- C: index 0.35
+    case (clay 20000 135) pileA (five 183375 247400 345653 593053 276522) ∷
+    -- D: saturation 80
+    case (row 20000 6 130 80 ∷ []) pileA (five 212100 268605 399798 534722 319838) ∷
+    -- E: rectangle 800 by 400
+    case (clay 20000 130) (rectangle 800 400) (five 212100 304000 509040 813040 407232) ∷
+    -- F: method 3
+    case (clay 20000 130) (circle 3 10000) (five 247450 268605 466431 735036 373144) ∷
+    -- G: 4,000 fine sand, then 16,000 of A's clay
+    case (fineSand 4000 ∷ clay 16000 130) pileA (five 221150 268605 416857 685462 333485) ∷
+    -- H: log 15,000 / 14,999
+    case (clay 15000 130) pileA (five 212100 268605 399798 668403 319838) ∷
+    case (clay 14999 130) pileA (only 8) ∷
+    -- I: index 0.45, tip 20,000 / 20,001, log 30,000
+    case (clay 30000 145) (circle 1 20000) (kPa 1350) ∷
+    case (clay 30000 145) (circle 1 20001) (only 12) ∷
+    -- J: index 0.40, tip 25,000, log 30,000
+    case (clay 30000 140) (circle 1 25000) (kPa 1725) ∷
+    -- K: clay top under fine sand at 8,000 / 8,001, log 20,000
+    case (fineSand 8000 ∷ clay 12000 130) pileA (only 0) ∷
+    case (fineSand 8001 ∷ clay 11999 130) pileA (only 10) ∷
+    -- L: index 0.60 / 0.61
+    case (clay 20000 160) pileA (kPa 600) ∷
+    case (clay 20000 161) pileA (only 11) ∷
+    []
