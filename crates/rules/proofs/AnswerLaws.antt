@@ -17,7 +17,7 @@ use Rattle.rules.specs.Checks.{pileChecks, depthOf}
 use Rattle.rules.specs.Ground.{soilAt, Agree}
 use Rattle.rules.specs.Pieces.{Piece, pieces, runTop}
 use Rattle.rules.specs.Numbers.{slicesOf}
-use Rattle.rules.specs.Answers.{depthsWrong, logShort, early, late, checksFrom, answerFrom, slicesFrom, answer, slices}
+use Rattle.rules.specs.Answers.{belowTip, depthsWrong, logShort, early, late, checksFrom, answerFrom, slicesFrom, answer, slices}
 use Rattle.rules.specs.Calculation.{answerOf, slicesOfRows}
 use Rattle.rules.specs.ByRows.{Positive, cuts, cutsOf, topAt, answerRows, slicesRows}
 use Rattle.rules.proofs.Basics.{sure}
@@ -66,9 +66,9 @@ module _ (rs : List Row) (p : Pile) (w : Positive rs) where
       (λ (h : refuses (early (depthOf rs) p) ≡ true). early-alone (depthOf rs) _ _ _ _ _ _ p h)
       (λ (h : refuses (early (depthOf rs) p) ≡ false).
         let c : Clear (depthOf rs) p = clear (depthOf rs) p h in
-        let t : topAt rs (p .tip) ≡ runTop (soilAt rs) (soilAt rs (p .tip)) (p .tip) = top-is rs (p .tip) w (omega (arith, c .deep)) in
-        (ap₂ (λ (t : ℕ) (l : List Slice). answerFrom (depthOf rs) (soilAt rs (p .tip)) t l p) t (cuts-are c),
-         ap₂ (λ (t : ℕ) (l : List Slice). slicesFrom (depthOf rs) (soilAt rs (p .tip)) t l p) t (cuts-are c)))
+        let t : topAt rs (belowTip p) ≡ runTop (soilAt rs) (soilAt rs (belowTip p)) (belowTip p) = top-is rs (belowTip p) w (omega (arith, c .deep)) in
+        (ap₂ (λ (t : ℕ) (l : List Slice). answerFrom (depthOf rs) (soilAt rs (belowTip p)) t l p) t (cuts-are c),
+         ap₂ (λ (t : ℕ) (l : List Slice). slicesFrom (depthOf rs) (soilAt rs (belowTip p)) t l p) t (cuts-are c)))
       (sure (refuses (early (depthOf rs) p)))
 
   -- typing does not matter: the answer along the rows is the answer of the ground

@@ -10,6 +10,9 @@ use Rattle.rules.specs.Base.{pick, either, neg}
 use Rattle.rules.specs.declared.Soil.{Soil}
 use Rattle.rules.specs.Ground.{same}
 use Rattle.rules.specs.Pieces.{Piece, piece, ends, walk, piecesFrom, pieces}
+use Rattle.rules.specs.declared.Pile.{Pile}
+use Rattle.rules.specs.declared.Slice.{Slice}
+use Rattle.rules.specs.Numbers.{sliceOf, slicesOf}
 
 abbrev pub thickSum : List Piece → ℕ
 thickSum [] = 0
@@ -66,3 +69,17 @@ pub all-fit : (g : ℕ → Soil) (a n : ℕ) → Fit (a + n) (piecesFrom g a n)
 unfolding piecesFrom
 all-fit g a zero = tt
 all-fit g a (suc n) = walk-fit g n a 1 (g a) (a + suc n) (omega arith) (omega arith) (omega arith)
+
+-- of slices, as of the pieces that they are cut from
+abbrev pub sliceSum : List Slice → ℕ
+sliceSum [] = 0
+sliceSum (c ∷ cs) = c .thickness + sliceSum cs
+
+slice-sum : (p : Pile) (cs : List Piece) → sliceSum (slicesOf p cs) ≡ thickSum cs
+unfolding slicesOf sliceOf
+slice-sum p [] = refl
+slice-sum p (c ∷ cs) = ap (λ (n : ℕ). c .thickness + n) (slice-sum p cs)
+
+-- "Slice thicknesses add up to tip less head."
+pub slices-add-up : (g : ℕ → Soil) (p : Pile) → sliceSum (slicesOf p (pieces g (p .head) (p .tip))) ≡ p .tip - p .head
+slices-add-up g p = slice-sum p (pieces g (p .head) (p .tip)) ∙ adds-up g (p .head) (p .tip)

@@ -6,5 +6,8 @@ pub mod PieceLaws
 pub mod FitLaws
 pub mod RowLaws
 pub mod SeatLaws
+pub mod TableLaws
 pub mod AnswerLaws
+pub mod RunLaws
+pub mod Replies
 pub mod Known

@@ -74,9 +74,13 @@ answerFrom depth at top cut p =
 unfoldable pub slicesFrom : ℕ → Soil → ℕ → List Slice → Pile → List Slice
 slicesFrom depth at top cut p = let r = checksFrom depth at top cut p in pick (refuses r) [] cut
 
+-- "the millimetre just below the tip": from the tip depth to the next
+abbrev pub belowTip : Pile → ℕ
+belowTip p = p .tip
+
 -- of a ground g that is `depth` deep
 unfoldable pub answer : (ℕ → Soil) → ℕ → Pile → Answer
-answer g depth p = answerFrom depth (g (p .tip)) (runTop g (g (p .tip)) (p .tip)) (slicesOf p (pieces g (p .head) (p .tip))) p
+answer g depth p = answerFrom depth (g (belowTip p)) (runTop g (g (belowTip p)) (belowTip p)) (slicesOf p (pieces g (p .head) (p .tip))) p
 
 unfoldable pub slices : (ℕ → Soil) → ℕ → Pile → List Slice
-slices g depth p = slicesFrom depth (g (p .tip)) (runTop g (g (p .tip)) (p .tip)) (slicesOf p (pieces g (p .head) (p .tip))) p
+slices g depth p = slicesFrom depth (g (belowTip p)) (runTop g (g (belowTip p)) (belowTip p)) (slicesOf p (pieces g (p .head) (p .tip))) p

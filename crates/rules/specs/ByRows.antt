@@ -14,7 +14,7 @@ use Rattle.rules.specs.Checks.{depthOf}
 use Rattle.rules.specs.Ground.{same, none, soilOf, soilAt}
 use Rattle.rules.specs.Pieces.{Piece, piece}
 use Rattle.rules.specs.Numbers.{slicesOf}
-use Rattle.rules.specs.Answers.{answerFrom, slicesFrom}
+use Rattle.rules.specs.Answers.{belowTip, answerFrom, slicesFrom}
 
 abbrev pub Positive : List Row → Type 0
 Positive [] = Unit {0}
@@ -61,7 +61,7 @@ abbrev pub cutsOf : List Row → Pile → List Slice
 cutsOf rs p = slicesOf p (cuts rs (p .tip - p .head) (p .head) (p .tip - p .head))
 
 unfoldable pub answerRows : List Row → Pile → Answer
-answerRows rs p = answerFrom (depthOf rs) (soilAt rs (p .tip)) (topAt rs (p .tip)) (cutsOf rs p) p
+answerRows rs p = answerFrom (depthOf rs) (soilAt rs (belowTip p)) (topAt rs (belowTip p)) (cutsOf rs p) p
 
 unfoldable pub slicesRows : List Row → Pile → List Slice
-slicesRows rs p = slicesFrom (depthOf rs) (soilAt rs (p .tip)) (topAt rs (p .tip)) (cutsOf rs p) p
+slicesRows rs p = slicesFrom (depthOf rs) (soilAt rs (belowTip p)) (topAt rs (belowTip p)) (cutsOf rs p) p

@@ -1,4 +1,4 @@
--- Cases A to L of document 01, "The sheet program and known numbers": what the paper prints, and what the definitions give.
+-- Cases A to L of document 01, "The sheet program and known numbers", and two that its traps ask for: what is right, and what the definitions give.
 use mathlib.Core.List.{List, [], _∷_, _++_, map}
 use Prim.Native.Nat.{ℕ, _+_, _*_, _-_}
 use lib.ListN.{length, take, replicate}
@@ -161,4 +161,8 @@ cases =
     -- L: index 0.60 / 0.61
     case (clay 20000 160) pileA (kPa 600) ∷
     case (clay 20000 161) pileA (only 11) ∷
+    -- "Reading the tip soil just above the tip: a tip on a boundary to clay has a seat of 0 mm in the lower soil, and gets 10."
+    case (row 10000 5 130 95 ∷ clay 10000 130) pileA (only 10) ∷
+    -- "Rounding each slice's friction to whole Pa before the sum.": A but index 0.37, head 1,001, tip 10,001, by exact fractions
+    case (clay 20000 137) (record { section = 1; a = 600; b = 0; method = 1; head = 1001; tip = 10001; zero = 0 }) (five 171894 238939 324012 562951 259209) ∷
     []
