@@ -46,11 +46,12 @@ clear depth p e =
       order = leb-false (p .tip) (p .head) (either-left _ _ a);
       far = ltb-false (p .tip) 3000 (either-left _ _ b);
       near = ltb-false 40000 (p .tip) (either-right (ltb (p .tip) 3000) _ b);
-      deep = ltb-false depth (p .tip + 5000) (when-off 7 (logShort depth p) (q .1)) }
+      deep = ltb-false depth (p .tip + 5000) (when-off 7 (logShort depth p) (q .1));
+    }
 
 -- a refusal by 5 to 8 asks for nothing else
 early-alone : (depth : ℕ) (at at′ : Soil) (top top′ : ℕ) (cut cut′ : List Slice) (p : Pile) → refuses (early depth p) ≡ true
-  → (answerFrom depth at top cut p ≡ answerFrom depth at′ top′ cut′ p) × (slicesFrom depth at top cut p ≡ slicesFrom depth at′ top′ cut′ p)
+    → (answerFrom depth at top cut p ≡ answerFrom depth at′ top′ cut′ p) × (slicesFrom depth at top cut p ≡ slicesFrom depth at′ top′ cut′ p)
 unfolding answerFrom slicesFrom checksFrom first
 early-alone depth at at′ top top′ cut cut′ p h = (simp h, simp h)
 
@@ -65,10 +66,11 @@ module _ (rs : List Row) (p : Pile) (w : Positive rs) where
       ⊎-elim
       (λ (h : refuses (early (depthOf rs) p) ≡ true). early-alone (depthOf rs) _ _ _ _ _ _ p h)
       (λ (h : refuses (early (depthOf rs) p) ≡ false).
-        let c : Clear (depthOf rs) p = clear (depthOf rs) p h in
-        let t : topAt rs (belowTip p) ≡ runTop (soilAt rs) (soilAt rs (belowTip p)) (belowTip p) = top-is rs (belowTip p) w (omega (arith, c .deep)) in
-        (ap₂ (λ (t : ℕ) (l : List Slice). answerFrom (depthOf rs) (soilAt rs (belowTip p)) t l p) t (cuts-are c),
-         ap₂ (λ (t : ℕ) (l : List Slice). slicesFrom (depthOf rs) (soilAt rs (belowTip p)) t l p) t (cuts-are c)))
+      let c : Clear (depthOf rs) p = clear (depthOf rs) p h in
+      let t : topAt rs (belowTip p) ≡ runTop (soilAt rs) (soilAt rs (belowTip p)) (belowTip p) = top-is rs (belowTip p) w (omega (arith, c .deep)) in (
+        ap₂ (λ (t : ℕ) (l : List Slice). answerFrom (depthOf rs) (soilAt rs (belowTip p)) t l p) t (cuts-are c),
+        ap₂ (λ (t : ℕ) (l : List Slice). slicesFrom (depthOf rs) (soilAt rs (belowTip p)) t l p) t (cuts-are c),
+      ))
       (sure (refuses (early (depthOf rs) p)))
 
   -- typing does not matter: the answer along the rows is the answer of the ground
@@ -81,6 +83,7 @@ module _ (rs : List Row) (p : Pile) (w : Positive rs) where
 -- Two logs that are equally deep and agree at every millimetre have equal answers and equal slices for the same pile record.
 pub only-millimetres : (rs ts : List Row) (p : Pile) → Agree rs ts → (answerOf rs p ≡ answerOf ts p) × (slicesOfRows rs p ≡ slicesOfRows ts p)
 unfolding answerOf slicesOfRows
-only-millimetres rs ts p h =
-    (ap₂ (λ (g : ℕ → Soil) (d : ℕ). answer g d p) (one-ground rs ts h) (h .0),
-     ap₂ (λ (g : ℕ → Soil) (d : ℕ). slices g d p) (one-ground rs ts h) (h .0))
+only-millimetres rs ts p h = (
+  ap₂ (λ (g : ℕ → Soil) (d : ℕ). answer g d p) (one-ground rs ts h) (h .0),
+  ap₂ (λ (g : ℕ → Soil) (d : ℕ). slices g d p) (one-ground rs ts h) (h .0),
+)

@@ -62,8 +62,8 @@ unfolding walk
 walk-fit g zero a t s e p h q = (p, h, omega arith, tt)
 walk-fit g (suc n) a t s e p h q =
     pick-fit (ends t s (g (a + t))) _ _ e
-      (p, h, omega arith, walk-fit g n (a + t) 1 (g (a + t)) e (omega arith) (omega arith) (omega arith))
-      (λ x. let l : t < 2000 = not-full t (neg (same s (g (a + t)))) h x in walk-fit g n a (t + 1) s e (omega arith) (omega arith) (omega arith))
+    (p, h, omega arith, walk-fit g n (a + t) 1 (g (a + t)) e (omega arith) (omega arith) (omega arith))
+    (λ x. let l : t < 2000 = not-full t (neg (same s (g (a + t)))) h x in walk-fit g n a (t + 1) s e (omega arith) (omega arith) (omega arith))
 
 pub all-fit : (g : ℕ → Soil) (a n : ℕ) → Fit (a + n) (piecesFrom g a n)
 unfolding piecesFrom

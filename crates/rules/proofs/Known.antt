@@ -100,8 +100,8 @@ all-rows (c ∷ cs) t =
     let b : List Row = rowsOf (take logSize (logIn (c .rows) ++ pileBytes (c .pile))) in
     let h : T (both (positive a) (positive b)) = both-left (both (positive a) (positive b)) (ready cs) t in
     ap₂ (λ (x : List ℕ) (xs : List (List ℕ)). x ∷ xs)
-      (row-work (c .shown) (c .rows) (c .pile) (are-positive a (both-left (positive a) (positive b) h)) (are-positive b (both-right (positive a) (positive b) h)))
-      (all-rows cs (both-right (both (positive a) (positive b)) (ready cs) t))
+    (row-work (c .shown) (c .rows) (c .pile) (are-positive a (both-left (positive a) (positive b) h)) (are-positive b (both-right (positive a) (positive b) h)))
+    (all-rows cs (both-right (both (positive a) (positive b)) (ready cs) t))
 
 all-ready : T (ready cases)
 unfolding bitsAt rowsFrom rowsOf rowBytes placesBytes logBytes pileBytes

@@ -28,12 +28,12 @@ hold g s a (suc n) m t h c =
     let e : suc n + m ≡ suc (n + m) = omega arith in
     let f : t + suc n ≡ t + 1 + n = omega arith in
     rw (e, f, stays t s (g (a + t)) (omega arith) (c (a + t) (omega arith) (omega arith)))
-      (hold g s a n m (t + 1) (omega arith) (λ k p q. c k (omega arith) (omega arith)))
+    (hold g s a n m (t + 1) (omega arith) (λ k p q. c k (omega arith) (omega arith)))
 
 -- the next piece is t thick if its soil goes on that far, and it ends there
 pub turn : (g : ℕ → Soil) (a n t : ℕ) → 0 < t → t ≤ 2000 → t ≤ n → ((k : ℕ) → a ≤ k → k < a + t → g k ≡ g a)
-  → (t < n → ends t (g a) (g (a + t)) ≡ true)
-  → piecesFrom g a n ≡ piece a t (g a) ∷ piecesFrom g (a + t) (n - t)
+    → (t < n → ends t (g a) (g (a + t)) ≡ true)
+    → piecesFrom g a n ≡ piece a t (g a) ∷ piecesFrom g (a + t) (n - t)
 unfolding piecesFrom walk
 turn g a n t z h l c d = ⊎-elim inside last (split t n)
   where
@@ -43,7 +43,7 @@ turn g a n t z h l c d = ⊎-elim inside last (split t n)
         let f : n - t ≡ suc (n - t - 1) = omega arith in
         let j : 1 + (t - 1) ≡ t = omega arith in
         let w : walk g ((t - 1) + suc (n - t - 1)) a 1 (g a) ≡ walk g (suc (n - t - 1)) a t (g a)
-              = rw j at (hold g (g a) a (t - 1) (suc (n - t - 1)) 1 (omega arith) (λ k p q. c k (omega arith) (omega arith))) in
+        = rw j at (hold g (g a) a (t - 1) (suc (n - t - 1)) 1 (omega arith) (λ k p q. c k (omega arith) (omega arith))) in
         let x : piecesFrom g a n ≡ walk g (suc (n - t - 1)) a t (g a) = ap (piecesFrom g a) e ∙ w in
         let y : walk g (suc (n - t - 1)) a t (g a) ≡ piece a t (g a) ∷ walk g (n - t - 1) (a + t) 1 (g (a + t)) = rw (d b) in
         x ∙ y ∙ ap (λ (k : ℕ). piece a t (g a) ∷ piecesFrom g (a + t) k) (sym f)
@@ -54,5 +54,5 @@ turn g a n t z h l c d = ⊎-elim inside last (split t n)
         let f : n - t ≡ 0 = omega arith in
         let j : 1 + (t - 1) ≡ t = omega arith in
         let w : walk g ((t - 1) + 0) a 1 (g a) ≡ walk g 0 a t (g a)
-              = rw j at (hold g (g a) a (t - 1) 0 1 (omega arith) (λ k p q. c k (omega arith) (omega arith))) in
+        = rw j at (hold g (g a) a (t - 1) 0 1 (omega arith) (λ k p q. c k (omega arith) (omega arith))) in
         ap (piecesFrom g a) e ∙ w ∙ ap (λ (k : ℕ). piece a t (g a) ∷ piecesFrom g (a + t) k) (sym f)

@@ -40,10 +40,10 @@ lead-in s [] i h = absurd (omega arith)
 lead-in s (r ∷ rs) i h =
     ⊎-elim
     (λ (e : same s (soilOf r) ≡ true).
-      let l : lead s (r ∷ rs) ≡ r .thickness + lead s rs = lead-on s r rs e in
-      ⊎-elim (λ (q : i < r .thickness). soil-here r rs i q ∙ sym (same-eq s (soilOf r) e))
-      (λ (q : r .thickness ≤ i). soil-below r rs i q ∙ lead-in s rs (i - r .thickness) (omega arith))
-      (split i (r .thickness)))
+    let l : lead s (r ∷ rs) ≡ r .thickness + lead s rs = lead-on s r rs e in
+    ⊎-elim (λ (q : i < r .thickness). soil-here r rs i q ∙ sym (same-eq s (soilOf r) e))
+    (λ (q : r .thickness ≤ i). soil-below r rs i q ∙ lead-in s rs (i - r .thickness) (omega arith))
+    (split i (r .thickness)))
     (λ (e : same s (soilOf r) ≡ false). let l : lead s (r ∷ rs) ≡ 0 = lead-off s r rs e in absurd (omega arith))
     (sure (same s (soilOf r)))
 
@@ -53,12 +53,12 @@ lead-out s [] p h = absurd (omega arith)
 lead-out s (r ∷ rs) p h =
     ⊎-elim
     (λ (e : same s (soilOf r) ≡ true).
-      let l : lead s (r ∷ rs) ≡ r .thickness + lead s rs = lead-on s r rs e in
-      let b : lead s (r ∷ rs) - r .thickness ≡ lead s rs = omega arith in
-      ap (same s) (soil-below r rs (lead s (r ∷ rs)) (omega arith) ∙ ap (soilAt rs) b) ∙ lead-out s rs (p .1) (omega arith))
+    let l : lead s (r ∷ rs) ≡ r .thickness + lead s rs = lead-on s r rs e in
+    let b : lead s (r ∷ rs) - r .thickness ≡ lead s rs = omega arith in
+    ap (same s) (soil-below r rs (lead s (r ∷ rs)) (omega arith) ∙ ap (soilAt rs) b) ∙ lead-out s rs (p .1) (omega arith))
     (λ (e : same s (soilOf r) ≡ false).
-      let l : lead s (r ∷ rs) ≡ 0 = lead-off s r rs e in
-      ap (same s) (soil-here r rs (lead s (r ∷ rs)) (omega (arith, p .0))) ∙ e)
+    let l : lead s (r ∷ rs) ≡ 0 = lead-off s r rs e in
+    ap (same s) (soil-here r rs (lead s (r ∷ rs)) (omega (arith, p .0))) ∙ e)
     (sure (same s (soilOf r)))
 
 pub extent-in : (rs : List Row) (m i : ℕ) → m ≤ i → i < m + extent rs m → soilAt rs i ≡ soilAt rs m
@@ -67,13 +67,13 @@ extent-in [] m i h l = absurd (omega arith)
 extent-in (r ∷ rs) m i h l =
     ⊎-elim
     (λ (q : m < r .thickness).
-      let e : extent (r ∷ rs) m ≡ r .thickness - m + lead (soilOf r) rs = extent-here r rs m q in
-      ⊎-elim (λ (k : i < r .thickness). soil-here r rs i k ∙ sym (soil-here r rs m q))
-      (λ (k : r .thickness ≤ i). soil-below r rs i k ∙ lead-in (soilOf r) rs (i - r .thickness) (omega arith) ∙ sym (soil-here r rs m q))
-      (split i (r .thickness)))
+    let e : extent (r ∷ rs) m ≡ r .thickness - m + lead (soilOf r) rs = extent-here r rs m q in
+    ⊎-elim (λ (k : i < r .thickness). soil-here r rs i k ∙ sym (soil-here r rs m q))
+    (λ (k : r .thickness ≤ i). soil-below r rs i k ∙ lead-in (soilOf r) rs (i - r .thickness) (omega arith) ∙ sym (soil-here r rs m q))
+    (split i (r .thickness)))
     (λ (q : r .thickness ≤ m).
-      let e : extent (r ∷ rs) m ≡ extent rs (m - r .thickness) = extent-below r rs m q in
-      soil-below r rs i (omega arith) ∙ extent-in rs (m - r .thickness) (i - r .thickness) (omega arith) (omega arith) ∙ sym (soil-below r rs m q))
+    let e : extent (r ∷ rs) m ≡ extent rs (m - r .thickness) = extent-below r rs m q in
+    soil-below r rs i (omega arith) ∙ extent-in rs (m - r .thickness) (i - r .thickness) (omega arith) (omega arith) ∙ sym (soil-below r rs m q))
     (split m (r .thickness))
 
 pub extent-pos : (rs : List Row) (m : ℕ) → m < depthOf rs → 0 < extent rs m
@@ -91,13 +91,13 @@ extent-out [] m p h = absurd (omega arith)
 extent-out (r ∷ rs) m p h =
     ⊎-elim
     (λ (q : m < r .thickness).
-      let e : extent (r ∷ rs) m ≡ r .thickness - m + lead (soilOf r) rs = extent-here r rs m q in
-      let b : m + extent (r ∷ rs) m - r .thickness ≡ lead (soilOf r) rs = omega arith in
-      ap₂ same (soil-here r rs m q) (soil-below r rs (m + extent (r ∷ rs) m) (omega arith) ∙ ap (soilAt rs) b) ∙ lead-out (soilOf r) rs (p .1) (omega arith))
+    let e : extent (r ∷ rs) m ≡ r .thickness - m + lead (soilOf r) rs = extent-here r rs m q in
+    let b : m + extent (r ∷ rs) m - r .thickness ≡ lead (soilOf r) rs = omega arith in
+    ap₂ same (soil-here r rs m q) (soil-below r rs (m + extent (r ∷ rs) m) (omega arith) ∙ ap (soilAt rs) b) ∙ lead-out (soilOf r) rs (p .1) (omega arith))
     (λ (q : r .thickness ≤ m).
-      let e : extent (r ∷ rs) m ≡ extent rs (m - r .thickness) = extent-below r rs m q in
-      let b : m + extent (r ∷ rs) m - r .thickness ≡ m - r .thickness + extent rs (m - r .thickness) = omega arith in
-      ap₂ same (soil-below r rs m q) (soil-below r rs (m + extent (r ∷ rs) m) (omega arith) ∙ ap (soilAt rs) b) ∙ extent-out rs (m - r .thickness) (p .1) (omega arith))
+    let e : extent (r ∷ rs) m ≡ extent rs (m - r .thickness) = extent-below r rs m q in
+    let b : m + extent (r ∷ rs) m - r .thickness ≡ m - r .thickness + extent rs (m - r .thickness) = omega arith in
+    ap₂ same (soil-below r rs m q) (soil-below r rs (m + extent (r ∷ rs) m) (omega arith) ∙ ap (soilAt rs) b) ∙ extent-out rs (m - r .thickness) (p .1) (omega arith))
     (split m (r .thickness))
 
 changed : (t b : Bool) → b ≡ false → either t (neg b) ≡ true
@@ -106,17 +106,18 @@ changed false b h = rw h
 
 -- the next piece, by rows
 pub next : (rs : List Row) (a n : ℕ) → Positive rs → 0 < n → a + n ≤ depthOf rs
-  → piecesFrom (soilAt rs) a n ≡ piece a (thickAt rs a n) (soilAt rs a) ∷ piecesFrom (soilAt rs) (a + thickAt rs a n) (n - thickAt rs a n)
+    → piecesFrom (soilAt rs) a n ≡ piece a (thickAt rs a n) (soilAt rs a) ∷ piecesFrom (soilAt rs) (a + thickAt rs a n) (n - thickAt rs a n)
 next rs a n p z l =
     let v : 0 < extent rs a = extent-pos rs a (omega arith) in
     turn (soilAt rs) a n (thickAt rs a n) (omega arith) (omega arith) (omega arith)
-      (λ k q w. extent-in rs a k q (omega arith))
-      (λ w. ⊎-elim (short w) (long w) (split (extent rs a) 2000))
+    (λ k q w. extent-in rs a k q (omega arith))
+    (λ w. ⊎-elim (short w) (long w) (split (extent rs a) 2000))
   where
     short : thickAt rs a n < n → extent rs a < 2000 → ends (thickAt rs a n) (soilAt rs a) (soilAt rs (a + thickAt rs a n)) ≡ true
     short w q =
         let e : thickAt rs a n ≡ extent rs a = omega arith in
         rw e (changed (eqb (extent rs a) 2000) (same (soilAt rs a) (soilAt rs (a + extent rs a))) (extent-out rs a p (omega arith)))
+
     long : thickAt rs a n < n → 2000 ≤ extent rs a → ends (thickAt rs a n) (soilAt rs a) (soilAt rs (a + thickAt rs a n)) ≡ true
     long w q = rw (eq-eqb (thickAt rs a n) 2000 (omega arith))
 
@@ -126,8 +127,8 @@ by-rows rs zero a n p f l = let e : n ≡ 0 = omega arith in rw e
 by-rows rs (suc k) a n p f l =
     ⊎-elim
     (λ (z : 0 < n).
-      let v : 0 < extent rs a = extent-pos rs a (omega arith) in
-      let t : ℕ = thickAt rs a n in
-      rw (lt-ltb 0 n z) (ap (λ (x : List Piece). piece a t (soilAt rs a) ∷ x) (by-rows rs k (a + t) (n - t) p (omega arith) (omega arith)) ∙ sym (next rs a n p z l)))
+    let v : 0 < extent rs a = extent-pos rs a (omega arith) in
+    let t : ℕ = thickAt rs a n in
+    rw (lt-ltb 0 n z) (ap (λ (x : List Piece). piece a t (soilAt rs a) ∷ x) (by-rows rs k (a + t) (n - t) p (omega arith) (omega arith)) ∙ sym (next rs a n p z l)))
     (λ (z : n ≤ 0). let e : n ≡ 0 = omega arith in rw e)
     (split 0 n)

@@ -34,13 +34,14 @@ no-kept log pile = from-kept _ _ _ _ _
 held-is : (log pile table : List ℕ) → withKept 0 (editAnswer log pile table) ≡ heldAnswer log pile
 unfolding editAnswer
 held-is log pile table = let e : heldAnswer log pile .kept ≡ 0 = no-kept log pile in λ i. record {
-    refusal = heldAnswer log pile .refusal;
-    kept = sym e i;
-    line = heldAnswer log pile .line;
-    tip = heldAnswer log pile .tip;
-    shaft = heldAnswer log pile .shaft;
-    capacity = heldAnswer log pile .capacity;
-    uplift = heldAnswer log pile .uplift }
+  refusal = heldAnswer log pile .refusal;
+  kept = sym e i;
+  line = heldAnswer log pile .line;
+  tip = heldAnswer log pile .tip;
+  shaft = heldAnswer log pile .shaft;
+  capacity = heldAnswer log pile .capacity;
+  uplift = heldAnswer log pile .uplift;
+}
 
 -- what is held of an accepted edit is what the log and its pile record give afresh
 abbrev pub Fresh : Held → List ℕ → List ℕ → Type 0
@@ -52,7 +53,7 @@ pick-fresh true h k log log′ table table′ a b = a
 pick-fresh false h k log log′ table table′ a b = b
 
 accepted-fresh : (t : Bool) (c : Call) (d : Desk) → refuses (editChecks (c .edit) (d .log) (c .pile) (d .table)) ≡ t → Fresh (d .held) (d .log) (d .table)
-  → Fresh (step c d .held) (step c d .log) (step c d .table)
+    → Fresh (step c d .held) (step c d .log) (step c d .table)
 unfolding step editLog editTable editReply heldAnswer heldTable answerOf slicesOfRows
 accepted-fresh true c d e h = rw e h
 accepted-fresh false c d e h = rw e (held-is (editedLog (c .edit) (d .log)) (c .pile) (d .table), refl)
@@ -65,8 +66,8 @@ run-fresh (c ∷ cs) d h = run-fresh cs (step c d) (accepted-fresh (refuses (edi
 -- From any log and table bytes: once an edit of the run is accepted, the held answer and the table are those worked out afresh
 -- from which soil stands at each millimetre of the log as it now stands, and the pile record of the last accepted edit.
 pub afresh : (cs : List Call) (log table pile : List ℕ) (a : Answer) → run cs (record { log = log; table = table; held = never }) .held ≡ by pile a
-  → (a ≡ freshAnswer (run cs (record { log = log; table = table; held = never }) .log) pile)
-  × (run cs (record { log = log; table = table; held = never }) .table ≡ freshTable (run cs (record { log = log; table = table; held = never }) .log) pile)
+    → (a ≡ freshAnswer (run cs (record { log = log; table = table; held = never }) .log) pile)
+    × (run cs (record { log = log; table = table; held = never }) .table ≡ freshTable (run cs (record { log = log; table = table; held = never }) .log) pile)
 afresh cs log table pile a e =
     let d : Desk = record { log = log; table = table; held = never } in
     subst (λ (h : Held). Fresh h (run cs d .log) (run cs d .table)) e (run-fresh cs d tt)
@@ -79,7 +80,7 @@ refused-still c d h = rw h
 -- Two logs that pass the log checks, are equally deep and agree at every millimetre get equal answers and equal tables with the same
 -- pile record, when no lent piece has the wrong length.
 pub however-typed : (log log′ pile table : List ℕ) → refuses (lentChecks log pile table) ≡ false → refuses (lentChecks log′ pile table) ≡ false → Agree (rowsOf log) (rowsOf log′)
-  → (calculated log pile table ≡ calculated log′ pile table) × (tableAfter log pile table ≡ tableAfter log′ pile table)
+    → (calculated log pile table ≡ calculated log′ pile table) × (tableAfter log pile table ≡ tableAfter log′ pile table)
 unfolding calculated tableAfter heldAnswer heldTable
 however-typed log log′ pile table h k g =
     let e = only-millimetres (rowsOf log) (rowsOf log′) (pileOf pile) g in

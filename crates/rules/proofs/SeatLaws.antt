@@ -52,7 +52,7 @@ unfolding topFrom
 top-below r rs s q b m h = rw (le-ltb m (b + r .thickness) h)
 
 topFrom-is : (rs : List Row) (g : ℕ → Soil) (s : Soil) (q b m : ℕ) → Positive rs → b ≤ m → m < b + depthOf rs
-  → ((k : ℕ) → b ≤ k → g k ≡ soilAt rs (k - b)) → runTop g s b ≡ q → (0 < b → g (b - 1) ≡ s) → topFrom rs s q b m ≡ runTop g (g m) m
+    → ((k : ℕ) → b ≤ k → g k ≡ soilAt rs (k - b)) → runTop g s b ≡ q → (0 < b → g (b - 1) ≡ s) → topFrom rs s q b m ≡ runTop g (g m) m
 unfolding depthOf
 topFrom-is [] g s q b m p l h c a d = absurd (omega arith)
 topFrom-is (r ∷ rs) g s q b m p l h c a d =
@@ -62,15 +62,15 @@ topFrom-is (r ∷ rs) g s q b m p l h c a d =
     let own : (k : ℕ) → b ≤ k → k < b + r .thickness → g k ≡ soilOf r = λ k x y. c k x ∙ soil-here r rs (k - b) (omega arith) in
     ⊎-elim
     (λ (i : m < b + r .thickness).
-      let e : b + (m - b) ≡ m = omega arith in
-      top-here r rs s q b m i ∙ sym t ∙ sym (run-on g (soilOf r) b (m - b) (λ k x y. own k x (omega arith)))
-      ∙ ap₂ (runTop g) (sym (own m l i)) e)
+    let e : b + (m - b) ≡ m = omega arith in
+    top-here r rs s q b m i ∙ sym t ∙ sym (run-on g (soilOf r) b (m - b) (λ k x y. own k x (omega arith)))
+    ∙ ap₂ (runTop g) (sym (own m l i)) e)
     (λ (i : b + r .thickness ≤ m).
-      top-below r rs s q b m i
-      ∙ topFrom-is rs g (soilOf r) v (b + r .thickness) m (p .1) i (omega arith)
-          (λ k x. let f : k - b - r .thickness ≡ k - (b + r .thickness) = omega arith in c k (omega arith) ∙ soil-below r rs (k - b) (omega arith) ∙ ap (soilAt rs) f)
-          (run-on g (soilOf r) b (r .thickness) own ∙ t)
-          (λ x. own (b + r .thickness - 1) (omega arith) (omega arith)))
+    top-below r rs s q b m i
+    ∙ topFrom-is rs g (soilOf r) v (b + r .thickness) m (p .1) i (omega arith)
+    (λ k x. let f : k - b - r .thickness ≡ k - (b + r .thickness) = omega arith in c k (omega arith) ∙ soil-below r rs (k - b) (omega arith) ∙ ap (soilAt rs) f)
+    (run-on g (soilOf r) b (r .thickness) own ∙ t)
+    (λ x. own (b + r .thickness - 1) (omega arith) (omega arith)))
     (split m (b + r .thickness))
 
 pub top-is : (rs : List Row) (m : ℕ) → Positive rs → m < depthOf rs → topAt rs m ≡ runTop (soilAt rs) (soilAt rs m) m

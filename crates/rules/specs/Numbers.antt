@@ -47,10 +47,11 @@ factor method kind =
 -- a piece with its friction and factor: what the table holds
 unfoldable pub sliceOf : Pile → Piece → Slice
 sliceOf p c = record {
-    top = c .top;
-    thickness = c .thickness;
-    friction = friction (c .soil) (midOf p (c .top) (c .thickness));
-    factor = factor (p .method) (c .soil .kind) }
+  top = c .top;
+  thickness = c .thickness;
+  friction = friction (c .soil) (midOf p (c .top) (c .thickness));
+  factor = factor (p .method) (c .soil .kind);
+}
 
 unfoldable pub slicesOf : Pile → List Piece → List Slice
 slicesOf p [] = []

@@ -19,11 +19,12 @@ bitsAt s at n = windowAt s (at / 8) / 2 ^ (32 - at % 8 - n) % 2 ^ n
 -- A row: thickness 16 bits, kind 3, liquidity index 8, degree of saturation 7, zero 6. It begins at bit `at`.
 abbrev pub rowAt : List ℕ → ℕ → Row
 rowAt s at = record {
-    thickness = bitsAt s at 16;
-    kind = bitsAt s (at + 16) 3;
-    index = bitsAt s (at + 16 + 3) 8;
-    saturation = bitsAt s (at + 16 + 3 + 8) 7;
-    zero = bitsAt s (at + 16 + 3 + 8 + 7) 6 }
+  thickness = bitsAt s at 16;
+  kind = bitsAt s (at + 16) 3;
+  index = bitsAt s (at + 16 + 3) 8;
+  saturation = bitsAt s (at + 16 + 3 + 8) 7;
+  zero = bitsAt s (at + 16 + 3 + 8 + 7) 6;
+}
 
 -- "top row first": n rows, of which the first begins at bit `at`
 unfoldable pub rowsFrom : List ℕ → ℕ → ℕ → List Row
@@ -45,21 +46,23 @@ rowsOf s = rowsFrom s 8 (countOf s)
 -- "section kind 2 bits; a 12 bits; b 12 bits; method 2 bits; head depth 16; tip depth 16; four zero bits"
 unfoldable pub pileOf : List ℕ → Pile
 pileOf s = record {
-    section = bitsAt s 0 2;
-    a = bitsAt s 2 12;
-    b = bitsAt s 14 12;
-    method = bitsAt s 26 2;
-    head = bitsAt s 28 16;
-    tip = bitsAt s 44 16;
-    zero = bitsAt s 60 4 }
+  section = bitsAt s 0 2;
+  a = bitsAt s 2 12;
+  b = bitsAt s 14 12;
+  method = bitsAt s 26 2;
+  head = bitsAt s 28 16;
+  tip = bitsAt s 44 16;
+  zero = bitsAt s 60 4;
+}
 
 -- "83 places of 7 bytes: top depth 16 bits, thickness 11, friction 25, method factor in tenths 4": place i, counted from 0
 unfoldable pub sliceAt : List ℕ → ℕ → Slice
 sliceAt s i = record {
-    top = bitsAt s (i * 56) 16;
-    thickness = bitsAt s (i * 56 + 16) 11;
-    friction = bitsAt s (i * 56 + 16 + 11) 25;
-    factor = bitsAt s (i * 56 + 16 + 11 + 25) 4 }
+  top = bitsAt s (i * 56) 16;
+  thickness = bitsAt s (i * 56 + 16) 11;
+  friction = bitsAt s (i * 56 + 16 + 11) 25;
+  factor = bitsAt s (i * 56 + 16 + 11 + 25) 4;
+}
 
 -- The other way: the fields one after the other as one number, and that number's bytes, the most significant first.
 abbrev pub rowNumber : Row → ℕ

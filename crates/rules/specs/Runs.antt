@@ -30,9 +30,10 @@ heldAfter c d = by (c .pile) (withKept 0 (editReply (c .edit) (d .log) (c .pile)
 
 unfoldable pub step : Call → Desk → Desk
 step c d = record {
-    log = editLog (c .edit) (d .log) (c .pile) (d .table);
-    table = editTable (c .edit) (d .log) (c .pile) (d .table);
-    held = pick (refuses (editChecks (c .edit) (d .log) (c .pile) (d .table))) (d .held) (heldAfter c d) }
+  log = editLog (c .edit) (d .log) (c .pile) (d .table);
+  table = editTable (c .edit) (d .log) (c .pile) (d .table);
+  held = pick (refuses (editChecks (c .edit) (d .log) (c .pile) (d .table))) (d .held) (heldAfter c d);
+}
 
 unfoldable pub run : List Call → Desk → Desk
 run [] d = d

@@ -66,7 +66,8 @@ placeOf ds unit m c d q =
       column = j;
       down = clamped - getD ds i 0 * unit;
       span = (getD ds (i + 1) 0 - getD ds i 0) * unit;
-      across = right - j * 10 }
+      across = right - j * 10;
+    }
 
 -- "Straight-line interpolation both ways": the four cells weighed, times span times ten
 unfoldable pub weighed : Place → ℕ → ℕ → ℕ → ℕ → ℕ
@@ -85,8 +86,8 @@ tipCell i j = cell Dash tipRows i j
 abbrev pub frictionWeighed : Place → ℕ
 frictionWeighed p =
     weighed p
-      (frictionCell (p .row) (p .column)) (frictionCell (p .row) (p .column + 1))
-      (frictionCell (p .row + 1) (p .column)) (frictionCell (p .row + 1) (p .column + 1))
+    (frictionCell (p .row) (p .column)) (frictionCell (p .row) (p .column + 1))
+    (frictionCell (p .row + 1) (p .column)) (frictionCell (p .row + 1) (p .column + 1))
 
 -- "Friction is kept in units of 1/200 Pa, in which it is always whole.": a kPa has 200,000 of them
 unfoldable pub frictionAt : Place → ℕ
@@ -112,6 +113,6 @@ dashAt p =
 unfoldable pub tipAt : Place → ℕ
 tipAt p =
     weighed p
-      (kpaOf (tipCell (p .row) (p .column))) (kpaOf (tipCell (p .row) (p .column + 1)))
-      (kpaOf (tipCell (p .row + 1) (p .column))) (kpaOf (tipCell (p .row + 1) (p .column + 1)))
+    (kpaOf (tipCell (p .row) (p .column))) (kpaOf (tipCell (p .row) (p .column + 1)))
+    (kpaOf (tipCell (p .row + 1) (p .column))) (kpaOf (tipCell (p .row + 1) (p .column + 1)))
     * 100 / p .span

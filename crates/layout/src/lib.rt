@@ -1,0 +1,144 @@
+// The text of the sheet, put line by line into a lent buffer.
+//
+// How a sheet is put together: with a buffer of 4,096 bytes,
+//     let mut at = put_answer(buf, 0, a);
+// and then, where a refuses nothing, for each slice c in order and once at the end
+//     at = put_slice(buf, at, c);
+//     at = put_total(buf, at, a);
+// after which buf[..at] is the sheet. Each call hands back the place behind its line. Where fewer than ROOM bytes are left
+// it stores nothing, and the place stays. That never comes to pass in 4,096 bytes: by the `short` clauses the place is at
+// most 40 + 33 * i after i slices, so a whole sheet of 83 has at most 2,890 bytes.
+//
+// For the proof of such a loop, proofs/SheetLaws carries `Holds buf at text`, that the bytes before the place are the text,
+// from call to call: sheet-begun, sheet-more, sheet-ended, and sheet-refused.
+use rules::Answer;
+use rules::Slice;
+ghost use mathlib.Core.Path.{_≡_};
+ghost use Prim.Native.Nat.{_+_, _*_, _≤_};
+ghost use lib.ListN.{length};
+ghost use Rattle.rules.specs.Sheet.{decimal, spaced, textLine, answerLine, sliceLine, totalLine};
+ghost use Rattle.layout.specs.Text.{putAt, Put, LinePut};
+ghost use Rattle.layout.specs.Digits.{lastDigits};
+
+// A line is put only where so many bytes are left, which is more than any line has.
+const ROOM: usize = 120;
+
+// The bytes of a text, one after another.
+fn put_bytes(buf: &mut [u8], at: usize, text: &[u8]) -> usize
+    requires { ⌜ at + length (now text) ≤ length (now buf) ⌝ }
+    ensures { λ r. ⌜ Put (now (buf .entry)) at (now (text .entry)) (now (buf .exit)) r ⌝ }
+{
+    let mut i = 0;
+    while i < text.len() {
+        buf[at + i] = text[i];
+        i += 1;
+    }
+    at + i
+}
+
+// How many digits x has.
+fn digit_count(x: u64) -> usize
+    ensures { λ r. ⌜ (r ≡ length (decimal x)) × (r ≤ 20) ⌝ }
+{
+    let mut n: usize = 1;
+    let mut left = x;
+    while 10 <= left {
+        left = left / 10;
+        n += 1;
+    }
+    n
+}
+
+// The last n digits of x, filled in from the last to the first.
+fn put_digits(buf: &mut [u8], at: usize, n: usize, x: u64)
+    requires { ⌜ at + n ≤ length (now buf) ⌝ }
+    ensures { λ _. ⌜ now (buf .exit) ≡ putAt (now (buf .entry)) at (lastDigits n x) ⌝ }
+{
+    let mut done = 0;
+    let mut left = x;
+    while done < n {
+        let place = at + (n - 1 - done);
+        buf[place] = 48 + (left % 10) as u8;
+        left = left / 10;
+        done += 1;
+    }
+}
+
+// A number's digits, with no leading zero.
+fn put_decimal(buf: &mut [u8], at: usize, x: u64) -> usize
+    requires { ⌜ at + 20 ≤ length (now buf) ⌝ }
+    ensures { λ r. ⌜ Put (now (buf .entry)) at (decimal x) (now (buf .exit)) r ⌝ }
+{
+    let n = digit_count(x);
+    put_digits(buf, at, n, x);
+    at + n
+}
+
+// Each number behind a single space.
+fn put_numbers(buf: &mut [u8], at: usize, xs: &[u64]) -> usize
+    requires { ⌜ at + 21 * length (now xs) ≤ length (now buf) ⌝ }
+    ensures { λ r. ⌜ Put (now (buf .entry)) at (spaced (now (xs .entry))) (now (buf .exit)) r ⌝ }
+{
+    let mut i = 0;
+    let mut next = at;
+    while i < xs.len() {
+        buf[next] = 32;
+        next = put_decimal(buf, next + 1, xs[i]);
+        i += 1;
+    }
+    next
+}
+
+// A word, its numbers, and a newline, where there is room.
+fn put_line(buf: &mut [u8], at: usize, word: &[u8], xs: &[u64]) -> usize
+    requires { ⌜ (length (now word) ≤ 6) × (length (now xs) ≤ 5) ⌝ }
+    ensures { λ r. ⌜ LinePut (now (buf .entry)) at (textLine (now (word .entry)) (now (xs .entry))) (now (buf .exit)) r ⌝ }
+{
+    if buf.len() < at {
+        return at;
+    }
+    if buf.len() - at < ROOM {
+        return at;
+    }
+    let behind = put_bytes(buf, at, word);
+    let next = put_numbers(buf, behind, xs);
+    buf[next] = 10;
+    next + 1
+}
+
+// The answer line: refusal number, row and field.
+pub fn put_answer(buf: &mut [u8], at: usize, a: Answer) -> usize
+    ensures line { λ r. ⌜ LinePut (now (buf .entry)) at (answerLine a) (now (buf .exit)) r ⌝ }
+    ensures short { λ r. ⌜ r ≤ at + 40 ⌝ }
+{
+    let refusal = a.refusal;
+    let xs = [
+        refusal.number as u64,
+        refusal.row as u64,
+        refusal.field as u64,
+    ];
+    put_line(buf, at, b"answer", &xs)
+}
+
+// A slice line: top, thickness, friction and factor.
+pub fn put_slice(buf: &mut [u8], at: usize, c: Slice) -> usize
+    ensures line { λ r. ⌜ LinePut (now (buf .entry)) at (sliceLine c) (now (buf .exit)) r ⌝ }
+    ensures short { λ r. ⌜ r ≤ at + 33 ⌝ }
+{
+    let xs = [
+        c.top as u64,
+        c.thickness as u64,
+        c.friction as u64,
+        c.factor as u64,
+    ];
+    put_line(buf, at, b"slice", &xs)
+}
+
+// The total line: line, tip, shaft, capacity and uplift.
+pub fn put_total(buf: &mut [u8], at: usize, a: Answer) -> usize
+    ensures line { λ r. ⌜ LinePut (now (buf .entry)) at (totalLine a) (now (buf .exit)) r ⌝ }
+    ensures short { λ r. ⌜ r ≤ at + 111 ⌝ }
+{
+    let xs = [a.line, a.tip, a.shaft, a.capacity, a.uplift];
+    put_line(buf, at, b"total", &xs)
+}
