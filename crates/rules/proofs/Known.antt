@@ -17,10 +17,10 @@ use Rattle.rules.specs.Ground.{same, soilAt}
 use Rattle.rules.specs.Tables.{rowFor, placeOf, weighed, frictionAt, dashAt, tipAt}
 use Rattle.rules.specs.Numbers.{friction, factor, sliceOf, slicesOf, total, tipRead, resistance, tipForce, shaftForce, capacityOf, upliftOf}
 use Rattle.rules.specs.Answers.{early, late, checksFrom, refused, numbers, answerFrom, slicesFrom}
-use Rattle.rules.specs.Calculation.{answerOf, slicesOfRows, heldAnswer, heldTable, lentChecks, calculated, tableAfter}
+use Rattle.rules.specs.Calculation.{answerOf, slicesOfRows, freshAnswer, freshTable, lentChecks, calculated, tableAfter}
 use Rattle.rules.specs.Sheet.{digitsFrom, spaced, answerLine, sliceLine, sliceLines, totalLine, sheetOf, sheetText}
 use Rattle.rules.specs.ByRows.{Positive, lead, extent, cuts, topFrom, answerRows, slicesRows}
-use Rattle.rules.specs.Cases.{Shown, five, kPa, only, bars, packedLog, packedPile, firstSlice, sheet, Case, joined, logIn, blankTable, resistanceIn, fiveOf, barOf, worked, work, print, cases}
+use Rattle.rules.specs.Cases.{Shown, five, kPa, only, bars, logHex, pileHex, firstSlice, sheet, Case, joined, logIn, blankTable, resistanceIn, fiveOf, barOf, worked, work, print, cases}
 use Rattle.rules.proofs.AnswerLaws.{answer-by-rows, slices-by-rows}
 
 abbrev positive : List Row → Bool
@@ -48,11 +48,11 @@ tableRows log pile table = pick (refuses (lentChecks log pile table)) table (tab
 
 module _ (log pile table : List ℕ) (w : Positive (rowsOf log)) where
   calculated-rows : calculated log pile table ≡ calculatedRows log pile table
-  unfolding calculated heldAnswer
+  unfolding calculated freshAnswer
   calculated-rows = let r = lentChecks log pile table in ap (λ (a : Answer). pick (refuses r) (refused r) a) (sym (answer-by-rows (rowsOf log) (pileOf pile) w))
 
   table-rows : tableAfter log pile table ≡ tableRows log pile table
-  unfolding tableAfter heldTable
+  unfolding tableAfter freshTable
   table-rows = ap (λ (l : List Slice). pick (refuses (lentChecks log pile table)) table (tableBytes l)) (sym (slices-by-rows (rowsOf log) (pileOf pile) w))
 
   slices-rows : slicesOfRows (rowsOf log) (pileOf pile) ≡ slicesRows (rowsOf log) (pileOf pile)
@@ -70,8 +70,8 @@ rowed (five l t s c u) rs p = fiveOf (calculatedRows (logIn rs) (pileBytes p) bl
 rowed (kPa r) rs p = calculatedRows (logIn rs) (pileBytes p) blankTable .refusal .number ∷ resistanceIn rs p ∷ []
 rowed (only n) rs p = calculatedRows (logIn rs) (pileBytes p) blankTable .refusal .number ∷ []
 rowed (bars l) rs p = calculatedRows (logIn rs) (pileBytes p) blankTable .refusal .number ∷ joined (map barOf (slicesRows (rowsOf (logIn rs)) (pileOf (pileBytes p))))
-rowed (packedLog l) rs p = logIn rs
-rowed (packedPile l) rs p = pileBytes p
+rowed (logHex l) rs p = logIn rs
+rowed (pileHex l) rs p = pileBytes p
 rowed (firstSlice l) rs p = take sliceSize (tableRows (logIn rs) (pileBytes p) blankTable)
 rowed (sheet l) rs p = sheetRows (logIn rs ++ pileBytes p)
 
@@ -81,8 +81,8 @@ row-work (kPa r) rs p w v = ap (λ (a : Answer). a .refusal .number ∷ resistan
 row-work (only n) rs p w v = ap (λ (a : Answer). a .refusal .number ∷ []) (calculated-rows (logIn rs) (pileBytes p) blankTable w)
 row-work (bars l) rs p w v =
     ap₂ (λ (a : Answer) (t : List Slice). a .refusal .number ∷ joined (map barOf t)) (calculated-rows (logIn rs) (pileBytes p) blankTable w) (slices-rows (logIn rs) (pileBytes p) blankTable w)
-row-work (packedLog l) rs p w v = refl
-row-work (packedPile l) rs p w v = refl
+row-work (logHex l) rs p w v = refl
+row-work (pileHex l) rs p w v = refl
 row-work (firstSlice l) rs p w v = ap (take sliceSize) (table-rows (logIn rs) (pileBytes p) blankTable w)
 row-work (sheet l) rs p w v = sheet-rows (logIn rs ++ pileBytes p) v
 

@@ -13,9 +13,9 @@ use Rattle.rules.specs.Packed.{rowsOf, pileOf, tableBytes}
 use Rattle.rules.specs.Ground.{Agree}
 use Rattle.rules.specs.Numbers.{resistance, lineOf}
 use Rattle.rules.specs.Answers.{refused, checksFrom, numbers, answerFrom, answer}
-use Rattle.rules.specs.Calculation.{answerOf, slicesOfRows, heldAnswer, heldTable, lentChecks, calculated, tableAfter}
+use Rattle.rules.specs.Calculation.{answerOf, slicesOfRows, freshAnswer, freshTable, lentChecks, calculated, tableAfter}
 use Rattle.rules.specs.Edits.{Edit, editChecks, editedLog, editAnswer, editReply, editLog, editTable, withKept}
-use Rattle.rules.specs.Runs.{Call, Held, never, by, Desk, step, run, freshAnswer, freshTable}
+use Rattle.rules.specs.Runs.{Call, Held, never, by, Desk, step, run}
 use Rattle.rules.proofs.AnswerLaws.{only-millimetres}
 
 -- a worked answer keeps nothing by itself
@@ -27,20 +27,20 @@ from-kept : (depth : ℕ) (at : Soil) (top : ℕ) (cut : List Slice) (p : Pile) 
 unfolding answerFrom numbers
 from-kept depth at top cut p = let r : Refusal = checksFrom depth at top cut p in pick-kept (refuses r) r (numbers at p (resistance p at) (lineOf cut)) refl
 
-no-kept : (log pile : List ℕ) → heldAnswer log pile .kept ≡ 0
-unfolding heldAnswer answerOf answer
+no-kept : (log pile : List ℕ) → freshAnswer log pile .kept ≡ 0
+unfolding freshAnswer answerOf answer
 no-kept log pile = from-kept _ _ _ _ _
 
-held-is : (log pile table : List ℕ) → withKept 0 (editAnswer log pile table) ≡ heldAnswer log pile
+held-is : (log pile table : List ℕ) → withKept 0 (editAnswer log pile table) ≡ freshAnswer log pile
 unfolding editAnswer
-held-is log pile table = let e : heldAnswer log pile .kept ≡ 0 = no-kept log pile in λ i. record {
-  refusal = heldAnswer log pile .refusal;
+held-is log pile table = let e : freshAnswer log pile .kept ≡ 0 = no-kept log pile in λ i. record {
+  refusal = freshAnswer log pile .refusal;
   kept = sym e i;
-  line = heldAnswer log pile .line;
-  tip = heldAnswer log pile .tip;
-  shaft = heldAnswer log pile .shaft;
-  capacity = heldAnswer log pile .capacity;
-  uplift = heldAnswer log pile .uplift;
+  line = freshAnswer log pile .line;
+  tip = freshAnswer log pile .tip;
+  shaft = freshAnswer log pile .shaft;
+  capacity = freshAnswer log pile .capacity;
+  uplift = freshAnswer log pile .uplift;
 }
 
 -- what is held of an accepted edit is what the log and its pile record give afresh
@@ -54,7 +54,7 @@ pick-fresh false h k log log′ table table′ a b = b
 
 accepted-fresh : (t : Bool) (c : Call) (d : Desk) → refuses (editChecks (c .edit) (d .log) (c .pile) (d .table)) ≡ t → Fresh (d .held) (d .log) (d .table)
     → Fresh (step c d .held) (step c d .log) (step c d .table)
-unfolding step editLog editTable editReply heldAnswer heldTable answerOf slicesOfRows
+unfolding step editLog editTable editReply
 accepted-fresh true c d e h = rw e h
 accepted-fresh false c d e h = rw e (held-is (editedLog (c .edit) (d .log)) (c .pile) (d .table), refl)
 
@@ -81,7 +81,7 @@ refused-still c d h = rw h
 -- pile record, when no lent piece has the wrong length.
 pub however-typed : (log log′ pile table : List ℕ) → refuses (lentChecks log pile table) ≡ false → refuses (lentChecks log′ pile table) ≡ false → Agree (rowsOf log) (rowsOf log′)
     → (calculated log pile table ≡ calculated log′ pile table) × (tableAfter log pile table ≡ tableAfter log′ pile table)
-unfolding calculated tableAfter heldAnswer heldTable
+unfolding calculated tableAfter freshAnswer freshTable
 however-typed log log′ pile table h k g =
     let e = only-millimetres (rowsOf log) (rowsOf log′) (pileOf pile) g in
     (rw (h, k) (e .0), rw (h, k) (ap tableBytes (e .1)))

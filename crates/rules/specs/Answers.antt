@@ -1,18 +1,18 @@
 -- The answer and the slices of a pile in a ground: checks 5 to 12 and 15, then the numbers. The ground is a function of millimetres.
 use mathlib.Core.Bool.{Bool}
-use mathlib.Core.List.{List, [], _∷_}
+use mathlib.Core.List.{List, []}
 use Prim.Native.Nat.{ℕ, _+_, _-_, max}
-use lib.Dec.{ltb, leb, eqb}
+use lib.Dec.{ltb, leb}
 use lib.ListN.{length}
 use Rattle.rules.specs.declared.Refusal.{Refusal}
 use Rattle.rules.specs.declared.Soil.{Soil}
 use Rattle.rules.specs.declared.Pile.{Pile}
 use Rattle.rules.specs.declared.Slice.{Slice}
 use Rattle.rules.specs.declared.Answer.{Answer}
-use Rattle.rules.specs.Base.{pick, either, refuses, when, first}
+use Rattle.rules.specs.Base.{pick, either, nothing, refuses, when, first}
 use Rattle.rules.specs.Limits.{placeLimit}
 use Rattle.rules.specs.Checks.{pileChecks}
-use Rattle.rules.specs.Pieces.{Piece, pieces, runTop}
+use Rattle.rules.specs.Pieces.{pieces, runTop}
 use Rattle.rules.specs.Numbers.{sand, slicesOf, lineOf, tipOf, tipRead, isDash, resistance, tipForce, shaftForce, capacityOf, upliftOf}
 
 -- 7: "head not above tip, or tip under 3,000 or over 40,000"
@@ -61,7 +61,7 @@ unfoldable pub numbers : Soil → Pile → ℕ → ℕ → Answer
 numbers at p r line =
     let t = tipForce p r in
     let s = shaftForce p line in
-    record { refusal = record { number = 0; row = 0; field = 0 }; kept = 0; line = line; tip = t; shaft = s; capacity = capacityOf at (t + s); uplift = upliftOf p s }
+    record { refusal = nothing; kept = 0; line = line; tip = t; shaft = s; capacity = capacityOf at (t + s); uplift = upliftOf p s }
 
 -- from the log's depth, the soil just below the tip, the top of its stratum, and the slices
 unfoldable pub answerFrom : ℕ → Soil → ℕ → List Slice → Pile → Answer

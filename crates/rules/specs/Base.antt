@@ -39,7 +39,7 @@ when t n = pick t (refuse n) nothing
 abbrev pub refuses : Refusal → Bool
 refuses r = ltb 0 (r .number)
 
--- "the first refusal that applies in the listed order": a, or b where a refuses nothing
+-- checks "in order": a, or b where a refuses nothing
 unfoldable pub first : Refusal → Refusal → Refusal
 first a b = pick (refuses a) a b
 

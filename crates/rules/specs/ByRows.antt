@@ -1,5 +1,5 @@
 -- The same by rows, for the engine and its laws: how far a soil goes on below a millimetre, one piece at a time, and a stratum's top.
--- These are not the paper's words: RowLaws and SeatLaws prove them equal to the millimetre definitions.
+-- These are not the paper's words: RowLaws, SeatLaws and AnswerLaws prove them equal to the millimetre definitions.
 use mathlib.Core.List.{List, [], _∷_}
 use Prim.Native.Nat.{ℕ, zero, suc, _+_, _-_, _<_, min}
 use lib.Dec.{ltb}

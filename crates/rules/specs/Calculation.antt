@@ -1,8 +1,7 @@
 -- A calculation on lent bytes: what it replies, and the slice table it leaves.
 use mathlib.Core.Bool.{Bool}
-use mathlib.Core.List.{List, [], _∷_}
+use mathlib.Core.List.{List}
 use Prim.Native.Nat.{ℕ}
-use lib.ListN.{length}
 use Rattle.rules.specs.declared.Refusal.{Refusal}
 use Rattle.rules.specs.declared.Pile.{Pile}
 use Rattle.rules.specs.declared.Row.{Row}
@@ -22,12 +21,12 @@ answerOf rs p = answer (soilAt rs) (depthOf rs) p
 unfoldable pub slicesOfRows : List Row → Pile → List Slice
 slicesOfRows rs p = slices (soilAt rs) (depthOf rs) p
 
--- the answer and the table of a log that passes checks 1 to 4, and a pile record of the right length
-unfoldable pub heldAnswer : List ℕ → List ℕ → Answer
-heldAnswer log pile = answerOf (rowsOf log) (pileOf pile)
+-- the answer and the table worked out afresh, of a log that passes checks 1 to 4 and a pile record of the right length
+unfoldable pub freshAnswer : List ℕ → List ℕ → Answer
+freshAnswer log pile = answerOf (rowsOf log) (pileOf pile)
 
-unfoldable pub heldTable : List ℕ → List ℕ → List ℕ
-heldTable log pile = tableBytes (slicesOfRows (rowsOf log) (pileOf pile))
+unfoldable pub freshTable : List ℕ → List ℕ → List ℕ
+freshTable log pile = tableBytes (slicesOfRows (rowsOf log) (pileOf pile))
 
 -- "1 looks at every lent piece that the call uses"
 abbrev pub lengthsWrong : List ℕ → List ℕ → List ℕ → Bool
@@ -40,8 +39,8 @@ lentChecks log pile table = first (when (lengthsWrong log pile table) 1) (logChe
 unfoldable pub calculated : List ℕ → List ℕ → List ℕ → Answer
 calculated log pile table =
     let r = lentChecks log pile table in
-    pick (refuses r) (refused r) (heldAnswer log pile)
+    pick (refuses r) (refused r) (freshAnswer log pile)
 
 -- "a calculation refused by 1 to 4, changes no buffer"; it "never changes the log"
 unfoldable pub tableAfter : List ℕ → List ℕ → List ℕ → List ℕ
-tableAfter log pile table = pick (refuses (lentChecks log pile table)) table (heldTable log pile)
+tableAfter log pile table = pick (refuses (lentChecks log pile table)) table (freshTable log pile)

@@ -10,6 +10,7 @@ use Rattle.rules.specs.Limits.{sliceSize, tableSize}
 use Rattle.rules.specs.Packed.{rowsOf, pileOf, logBytes, pileBytes}
 use Rattle.rules.specs.Ground.{soilAt}
 use Rattle.rules.specs.Numbers.{resistance}
+use Rattle.rules.specs.Answers.{belowTip}
 use Rattle.rules.specs.Calculation.{calculated, tableAfter, slicesOfRows}
 use Rattle.rules.specs.Sheet.{sheetText}
 
@@ -24,8 +25,8 @@ pub data Shown : Type 0 where
   -- the slices: top, thickness, friction, factor
   bars : List (List ℕ) → Shown
   -- the packed log, the pile record, the first slice in the table
-  packedLog : List ℕ → Shown
-  packedPile : List ℕ → Shown
+  logHex : List ℕ → Shown
+  pileHex : List ℕ → Shown
   firstSlice : List ℕ → Shown
   -- the whole sheet, in ASCII
   sheet : List ℕ → Shown
@@ -44,8 +45,8 @@ printed (five l t s c u) = 0 ∷ l ∷ t ∷ s ∷ c ∷ u ∷ []
 printed (kPa r) = 0 ∷ r * 1000 ∷ []
 printed (only n) = n ∷ []
 printed (bars l) = 0 ∷ joined l
-printed (packedLog l) = l
-printed (packedPile l) = l
+printed (logHex l) = l
+printed (pileHex l) = l
 printed (firstSlice l) = l
 printed (sheet l) = l
 
@@ -63,7 +64,7 @@ abbrev pub slicesIn : List Row → Pile → List Slice
 slicesIn rs p = slicesOfRows (rowsOf (logIn rs)) (pileOf (pileBytes p))
 
 abbrev pub resistanceIn : List Row → Pile → ℕ
-resistanceIn rs p = resistance (pileOf (pileBytes p)) (soilAt (rowsOf (logIn rs)) (p .tip))
+resistanceIn rs p = resistance (pileOf (pileBytes p)) (soilAt (rowsOf (logIn rs)) (belowTip p))
 
 abbrev pub fiveOf : Answer → List ℕ
 fiveOf a = a .refusal .number ∷ a .line ∷ a .tip ∷ a .shaft ∷ a .capacity ∷ a .uplift ∷ []
@@ -77,8 +78,8 @@ worked (five l t s c u) rs p = fiveOf (answerIn rs p)
 worked (kPa r) rs p = answerIn rs p .refusal .number ∷ resistanceIn rs p ∷ []
 worked (only n) rs p = answerIn rs p .refusal .number ∷ []
 worked (bars l) rs p = answerIn rs p .refusal .number ∷ joined (map barOf (slicesIn rs p))
-worked (packedLog l) rs p = logIn rs
-worked (packedPile l) rs p = pileBytes p
+worked (logHex l) rs p = logIn rs
+worked (pileHex l) rs p = pileBytes p
 worked (firstSlice l) rs p = take sliceSize (tableAfter (logIn rs) (pileBytes p) blankTable)
 worked (sheet l) rs p = sheetText (logIn rs ++ pileBytes p)
 
@@ -128,8 +129,8 @@ barsA = (1000 ∷ 2000 ∷ 6000000 ∷ 6 ∷ []) ∷ (3000 ∷ 2000 ∷ 7600000 
 abbrev pub cases : List Case
 cases =
     -- A: one clay row, 20,000 mm, index 0.30, saturation 95; circle 600, method 1, head 1,000, tip 10,000
-    case (clay 20000 130) pileA (packedLog ((1 ∷ 78 ∷ 32 ∷ 208 ∷ 87 ∷ 192 ∷ []) ++ replicate 315 0)) ∷
-    case (clay 20000 130) pileA (packedPile (73 ∷ 96 ∷ 0 ∷ 16 ∷ 62 ∷ 130 ∷ 113 ∷ 0 ∷ [])) ∷
+    case (clay 20000 130) pileA (logHex ((1 ∷ 78 ∷ 32 ∷ 208 ∷ 87 ∷ 192 ∷ []) ++ replicate 315 0)) ∷
+    case (clay 20000 130) pileA (pileHex (73 ∷ 96 ∷ 0 ∷ 16 ∷ 62 ∷ 130 ∷ 113 ∷ 0 ∷ [])) ∷
     case (clay 20000 130) pileA (five 212100 268605 399798 668403 319838) ∷
     case (clay 20000 130) pileA (bars barsA) ∷
     case (clay 20000 130) pileA (firstSlice (3 ∷ 232 ∷ 250 ∷ 5 ∷ 184 ∷ 216 ∷ 6 ∷ [])) ∷

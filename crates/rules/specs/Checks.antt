@@ -1,14 +1,14 @@
--- Checks 1 to 6: lengths, the log, and the pile record by itself. "the first refusal that applies in the listed order"
-use mathlib.Core.Bool.{Bool, true, false}
+-- Checks 1 to 6: lengths, the log, and the pile record by itself.
+use mathlib.Core.Bool.{Bool}
 use mathlib.Core.List.{List, [], _∷_}
-use Prim.Native.Nat.{ℕ, zero, suc, _+_, _*_}
+use Prim.Native.Nat.{ℕ, _+_, _*_}
 use lib.Dec.{ltb, leb, eqb}
 use lib.ListN.{length, drop}
 use Rattle.rules.specs.declared.Refusal.{Refusal}
 use Rattle.rules.specs.declared.Row.{Row}
 use Rattle.rules.specs.declared.Pile.{Pile}
-use Rattle.rules.specs.Base.{pick, both, either, neg, within, nothing, when, first, allZero}
-use Rattle.rules.specs.Limits.{rowLimit, rowSize, logSize, pileSize, tableSize, depthLimit}
+use Rattle.rules.specs.Base.{pick, either, neg, within, nothing, when, first, allZero}
+use Rattle.rules.specs.Limits.{rowLimit, rowSize, depthLimit}
 use Rattle.rules.specs.Packed.{countOf, rowsOf}
 
 -- 1: "a lent piece has the wrong length"

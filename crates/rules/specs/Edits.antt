@@ -3,15 +3,15 @@ use mathlib.Core.Bool.{Bool, true, false}
 use mathlib.Core.List.{List, [], _∷_, _++_}
 use Prim.Native.Nat.{ℕ, zero, suc, _+_, _*_, _-_}
 use lib.Dec.{ltb, leb, eqb}
-use lib.ListN.{length, getD, take, drop, replicate}
+use lib.ListN.{length, take, drop, replicate}
 use Rattle.rules.specs.declared.Refusal.{Refusal}
 use Rattle.rules.specs.declared.Row.{Row}
 use Rattle.rules.specs.declared.Answer.{Answer}
 use Rattle.rules.specs.Base.{pick, both, either, neg, within, nothing, refuses, when, first}
 use Rattle.rules.specs.Limits.{rowLimit, rowSize, sliceSize, depthLimit}
 use Rattle.rules.specs.Packed.{rowAt, rowsOf, countOf, rowBytes, pileOf}
-use Rattle.rules.specs.Checks.{longOther, wrongField, depthOf}
-use Rattle.rules.specs.Calculation.{lengthsWrong, lentChecks, heldAnswer, heldTable, slicesOfRows}
+use Rattle.rules.specs.Checks.{longOther, wrongField, depthOf, logChecks}
+use Rattle.rules.specs.Calculation.{lengthsWrong, freshAnswer, freshTable, slicesOfRows}
 use Rattle.rules.specs.Answers.{refused}
 
 -- An edit as it comes: kind 1 replace, 2 insert, 3 remove, 4 split; k names a row from 1; x mm is the split point; row is the new row's bytes.
@@ -110,7 +110,7 @@ changeChecks e log =
 -- "An edit checks 1 to 4 of what is lent, 13, 14, then 3 for its new row (row number k), then 4 for the new log; these refuse the edit."
 unfoldable pub editChecks : Edit → List ℕ → List ℕ → List ℕ → Refusal
 editChecks e log pile table =
-    first (when (editLengths e log pile table) 1) (first (lentChecks log pile table) (changeChecks e log))
+    first (when (editLengths e log pile table) 1) (first (logChecks log) (changeChecks e log))
 
 -- two lists of bytes are the same
 unfoldable pub sameBytes : List ℕ → List ℕ → Bool
@@ -135,7 +135,7 @@ withKept n a = record { refusal = a .refusal; kept = n; line = a .line; tip = a 
 
 -- what an accepted edit replies, for the log as it now stands
 unfoldable pub editAnswer : List ℕ → List ℕ → List ℕ → Answer
-editAnswer now pile table = withKept (kept (usedSlices now pile) (heldTable now pile) table) (heldAnswer now pile)
+editAnswer now pile table = withKept (kept (usedSlices now pile) (freshTable now pile) table) (freshAnswer now pile)
 
 -- the reply, the log and the table after the edit. "A refused edit .. changes no buffer."
 unfoldable pub editReply : Edit → List ℕ → List ℕ → List ℕ → Answer
@@ -147,4 +147,4 @@ unfoldable pub editLog : Edit → List ℕ → List ℕ → List ℕ → List �
 editLog e log pile table = pick (refuses (editChecks e log pile table)) log (editedLog e log)
 
 unfoldable pub editTable : Edit → List ℕ → List ℕ → List ℕ → List ℕ
-editTable e log pile table = pick (refuses (editChecks e log pile table)) table (heldTable (editedLog e log) pile)
+editTable e log pile table = pick (refuses (editChecks e log pile table)) table (freshTable (editedLog e log) pile)

@@ -1,4 +1,4 @@
--- The limits of document 01, each named once.
+-- Sizes and counts of document 01, each named once. (Ranges of fields and the numbers of checks 7 to 12 stand with their sentences.)
 use Prim.Native.Nat.{ℕ, _+_, _*_}
 
 -- "then 64 row places of 5 bytes"

@@ -21,7 +21,8 @@ sand s = leb (s .kind) 3
 abbrev pub right : Soil → ℕ
 right s = pick (sand s) ((s .kind - 1) * 10) (max 120 (s .index) - 120)
 
--- "at the slice's mid-depth, which may fall on half a millimetre": in half millimetres
+-- "at the slice's mid-depth, which may fall on half a millimetre": in half millimetres. Depths reach the two tables only through
+-- midOf and tipOf, and the pile stands in both since a record may say more of depths than its own.
 abbrev pub midOf : Pile → ℕ → ℕ → ℕ
 midOf p top thickness = top + top + thickness
 

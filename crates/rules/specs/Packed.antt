@@ -1,12 +1,12 @@
 -- The packed forms: the fields of a row, a log, a pile record and a slice as numbers cut from the bytes, and the bytes of given fields.
 use mathlib.Core.List.{List, [], _∷_, _++_}
 use Prim.Native.Nat.{ℕ, zero, suc, _+_, _*_, _-_, _/_, _%_, _^_}
-use lib.ListN.{getD, length, take, drop, replicate}
+use lib.ListN.{getD, length, drop, replicate}
 use Rattle.rules.specs.declared.Row.{Row}
 use Rattle.rules.specs.declared.Log.{Log}
 use Rattle.rules.specs.declared.Pile.{Pile}
 use Rattle.rules.specs.declared.Slice.{Slice}
-use Rattle.rules.specs.Limits.{rowLimit, rowSize, sliceSize, tableSize}
+use Rattle.rules.specs.Limits.{rowLimit, sliceSize, tableSize}
 
 -- Four bytes from i on as one number, the first the most significant; 0 past the end.
 abbrev pub windowAt : List ℕ → ℕ → ℕ
@@ -43,7 +43,7 @@ logOf s = record { count = countOf s; rows = rowsFrom s 8 rowLimit }
 unfoldable pub rowsOf : List ℕ → List Row
 rowsOf s = rowsFrom s 8 (countOf s)
 
--- "section kind 2 bits; a 12 bits; b 12 bits; method 2 bits; head depth 16; tip depth 16; four zero bits"
+-- "section kind 2 bits (1 circle, 2 rectangle); a 12 bits; b 12 bits; method 2 bits; head depth 16; tip depth 16; four zero bits"
 unfoldable pub pileOf : List ℕ → Pile
 pileOf s = record {
   section = bitsAt s 0 2;

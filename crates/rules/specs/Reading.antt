@@ -1,9 +1,9 @@
 -- Reading and packing by themselves. "Reading or packing a log by itself checks 1 to 3, a pile record 1, 5 and 6, and no more"
-use mathlib.Core.Bool.{Bool, true, false}
+use mathlib.Core.Bool.{Bool, true}
 use mathlib.Core.List.{List, [], _∷_}
-use Prim.Native.Nat.{ℕ, zero, suc, _+_, _*_}
-use lib.Dec.{ltb, leb, eqb}
-use lib.ListN.{length, getD, take, drop, replicate}
+use Prim.Native.Nat.{ℕ}
+use lib.Dec.{ltb, eqb}
+use lib.ListN.{take, drop, replicate}
 use Rattle.rules.specs.declared.Refusal.{Refusal}
 use Rattle.rules.specs.declared.Row.{Row}
 use Rattle.rules.specs.declared.Log.{Log}
