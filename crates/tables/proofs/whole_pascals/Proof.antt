@@ -1,0 +1,17 @@
+-- `tables::whole_pascals` meets its contract.
+use mathlib.Core.Path.{refl}
+use borrow.Author.Needs.{needs}
+use Rattle.tables.proofs.whole_pascals.Statement.{statement}
+use Rattle.tables.proofs.whole_pascals.Tie as tie
+
+mul-result : tie.Need-mul-result
+mul-result c = search needs
+
+div-result : tie.Need-div-result
+div-result c = search needs
+
+returns : tie.Need-returns
+returns c = refl
+
+pub whole-pascals-spec : {M : Type 1} → statement M
+whole-pascals-spec = tie.close (tie.spec mul-result div-result returns)
