@@ -1,0 +1,194 @@
+-- What is worked out, check by check.
+use mathlib.Core.Path.{_≡_, refl, sym, _∙_, ap, ap₂}
+use mathlib.Core.Bool.{Bool, true, false}
+use mathlib.Core.Logic.{_⊎_, inl, inr, ⊎-elim}
+use mathlib.Core.List.{List, [], _∷_}
+use Prim.Native.Nat.{ℕ, zero, suc, _/_, _<_, _≤_}
+use native.Mathlib.Omega.{arith}
+use lib.Dec.{ltb}
+use lib.ListN.{length}
+use borrow.Author.Tests.{lt-ltb, le-ltb, eq-eqb}
+use Rattle.rules.specs.declared.Refusal.{Refusal}
+use Rattle.rules.specs.declared.Row.{Row}
+use Rattle.rules.specs.declared.Soil.{Soil}
+use Rattle.rules.specs.declared.Pile.{Pile}
+use Rattle.rules.specs.declared.Slice.{Slice}
+use Rattle.rules.specs.declared.Answer.{Answer}
+use Rattle.rules.specs.declared.PileRead.{PileRead}
+use Rattle.rules.specs.declared.TipRead.{TipRead}
+use Rattle.rules.specs.Base.{pick, refuse, refuses, when, first}
+use Rattle.rules.specs.Packed.{pileOf, slicesBytes, tableBytes}
+use Rattle.rules.specs.Checks.{longOther, pileChecks, depthOf}
+use Rattle.rules.specs.Reading.{readPile}
+use Rattle.rules.specs.Ground.{same, soilAt}
+use Rattle.rules.specs.Pieces.{runTop}
+use Rattle.rules.specs.Numbers.{tipOf, tipRead, pascals, resistance, total, lineOf}
+use Rattle.rules.specs.Answers.{early, late, tooMany, checksFrom, numbers, answerFrom, slicesFrom, answer, slices}
+use Rattle.rules.specs.Calculation.{answerOf, slicesOfRows}
+use Rattle.rules.proofs.RefusalLaws.{first-left, first-right, first-none, when-true, when-false}
+use Rattle.rules.proofs.Basics.{split}
+use Rattle.shaft.specs.declared.Stratum.{Stratum}
+use Rattle.shaft.specs.declared.Shaft.{Shaft}
+use Rattle.shaft.specs.Cut.{stratumAt, cutOf, noShaft, shaftOf}
+use Rattle.calculation.specs.declared.Worked.{Worked}
+use Rattle.calculation.specs.Work.{workedOut, noWork, depthChecks}
+
+-- a refusal's number, and whether it refuses
+pub number-on : (n : ℕ) (r : Refusal) → refuse n ≡ r → (n ≡ 0 → ⊥) → refuses r ≡ true
+number-on n r e h = ap refuses (sym e) ∙ lt-ltb 0 n (omega (arith, h))
+
+pub number-off : (n : ℕ) (r : Refusal) → refuse n ≡ r → n ≡ 0 → refuses r ≡ false
+number-off n r e h = ap refuses (sym e) ∙ le-ltb 0 n (omega arith)
+
+pub refusal-on : (r : Refusal) → (r .number ≡ 0 → ⊥) → refuses r ≡ true
+refusal-on r h = lt-ltb 0 (r .number) (omega (arith, h))
+
+pub refusal-off : (r : Refusal) → r .number ≡ 0 → refuses r ≡ false
+refusal-off r h = le-ltb 0 (r .number) (omega arith)
+
+-- a pile record of the right length, as reading gives it
+pub pile-read : (s : List ℕ) (r : PileRead) → r ≡ readPile s → length s ≡ 8
+  → (r .refusal ≡ pileChecks (pileOf s)) × (refuses (pileChecks (pileOf s)) ≡ false → r .pile ≡ pileOf s)
+unfolding readPile
+pile-read s r e l =
+    let long : first (when (longOther 8 s) 1) (pileChecks (pileOf s)) ≡ pileChecks (pileOf s)
+          = first-right _ _ (ap refuses (when-false 1 (longOther 8 s) (rw (eq-eqb (length s) 8 l)))) in
+    (ap (λ (x : PileRead). x .refusal) e ∙ long,
+     λ h. ap (λ (x : PileRead). x .pile) e ∙ rw (long, h))
+
+-- a shaft that a table holds, and one that it does not
+pub shaft-few : (cs : List Slice) (c : Shaft) → c ≡ shaftOf cs → c .used ≤ 83 → (length cs ≤ 83) × (c ≡ record { bytes = tableBytes cs; used = length cs; total = total cs })
+unfolding shaftOf
+shaft-few cs c e h =
+    ⊎-elim
+    (λ (l : 83 < length cs).
+      let o : shaftOf cs ≡ noShaft = rw (lt-ltb 83 (length cs) l) in
+      let k : c .used ≡ 84 = ap (λ (x : Shaft). x .used) (e ∙ o) in
+      absurd (omega arith))
+    (λ (l : length cs ≤ 83). (l, e ∙ rw (le-ltb 83 (length cs) l)))
+    (split 83 (length cs))
+
+pub shaft-many : (cs : List Slice) (c : Shaft) → c ≡ shaftOf cs → 83 < c .used → 83 < length cs
+unfolding shaftOf
+shaft-many cs c e h =
+    ⊎-elim
+    (λ (l : 83 < length cs). l)
+    (λ (l : length cs ≤ 83).
+      let o : shaftOf cs ≡ record { bytes = tableBytes cs; used = length cs; total = total cs } = rw (le-ltb 83 (length cs) l) in
+      let k : c .used ≡ length cs = ap (λ (x : Shaft). x .used) (e ∙ o) in
+      absurd (omega arith))
+    (split 83 (length cs))
+
+pub top-le : (g : ℕ → Soil) (s : Soil) (n : ℕ) → runTop g s n ≤ n
+unfolding runTop
+top-le g s zero = omega arith
+top-le g s (suc n) = go (same s (g n)) (top-le g s n)
+  where
+    go : (t : Bool) → runTop g s n ≤ n → pick t (runTop g s n) (suc n) ≤ suc n
+    go true h = omega arith
+    go false h = omega arith
+
+module _ (rs : List Row) (p : Pile) where
+  abbrev below : Soil
+  below = soilAt rs (p .tip)
+
+  abbrev top : ℕ
+  top = runTop (soilAt rs) (soilAt rs (p .tip)) (p .tip)
+
+  abbrev checks : Refusal
+  checks = checksFrom (depthOf rs) below top (cutOf rs p) p
+
+  -- a refusal leaves no work
+  work-refused : (r : Refusal) → checks ≡ r → refuses r ≡ true → workedOut rs p ≡ noWork r
+  unfolding workedOut answerOf answer answerFrom slicesOfRows slices slicesFrom tableBytes slicesBytes
+  work-refused r e h = rw (e, h)
+
+  work-passed : refuses checks ≡ false
+    → workedOut rs p ≡ record { answer = numbers below p (resistance p below) (lineOf (cutOf rs p)); used = length (cutOf rs p); bytes = tableBytes (cutOf rs p) }
+  unfolding workedOut answerOf answer answerFrom slicesOfRows slices slicesFrom
+  work-passed h = rw h
+
+  early-is : early (depthOf rs) p ≡ first (pileChecks p) (depthChecks (depthOf rs) p)
+  unfolding early depthChecks
+  early-is = refl
+
+  early-checks : refuses (early (depthOf rs) p) ≡ true → checks ≡ early (depthOf rs) p
+  unfolding checksFrom
+  early-checks h = first-left _ _ h
+
+  late-checks : refuses (early (depthOf rs) p) ≡ false → checks ≡ first (late below top p) (when (tooMany (length (cutOf rs p))) 15)
+  unfolding checksFrom
+  late-checks h = first-right _ _ h
+
+  pub pile-refused : refuses (pileChecks p) ≡ true → workedOut rs p ≡ noWork (pileChecks p)
+  pile-refused h =
+      let e : early (depthOf rs) p ≡ pileChecks p = early-is ∙ first-left _ _ h in
+      work-refused (pileChecks p) (early-checks (ap refuses e ∙ h) ∙ e) h
+
+  pub depth-refused : refuses (pileChecks p) ≡ false → refuses (depthChecks (depthOf rs) p) ≡ true → workedOut rs p ≡ noWork (depthChecks (depthOf rs) p)
+  depth-refused h k =
+      let e : early (depthOf rs) p ≡ depthChecks (depthOf rs) p = early-is ∙ first-right _ _ h in
+      work-refused (depthChecks (depthOf rs) p) (early-checks (ap refuses e ∙ k) ∙ e) k
+
+  pub depth-passed : refuses (pileChecks p) ≡ false → refuses (depthChecks (depthOf rs) p) ≡ false → refuses (early (depthOf rs) p) ≡ false
+  depth-passed h k = ap refuses early-is ∙ first-none _ _ h k
+
+  pub tip-refused : refuses (early (depthOf rs) p) ≡ false → refuses (late below top p) ≡ true → workedOut rs p ≡ noWork (late below top p)
+  tip-refused h k = work-refused (late below top p) (late-checks h ∙ first-left _ _ k) k
+
+  pub shaft-refused : refuses (early (depthOf rs) p) ≡ false → refuses (late below top p) ≡ false → 83 < length (cutOf rs p) → workedOut rs p ≡ noWork (refuse 15)
+  shaft-refused h k o = work-refused (refuse 15) (late-checks h ∙ first-right _ _ k ∙ when-true 15 _ (lt-ltb 83 (length (cutOf rs p)) o)) refl
+
+  pub all-passed : refuses (early (depthOf rs) p) ≡ false → refuses (late below top p) ≡ false → length (cutOf rs p) ≤ 83
+    → workedOut rs p ≡ record { answer = numbers below p (resistance p below) (lineOf (cutOf rs p)); used = length (cutOf rs p); bytes = tableBytes (cutOf rs p) }
+  all-passed h k o = work-passed (ap refuses (late-checks h ∙ first-right _ _ k ∙ when-false 15 _ (le-ltb 83 (length (cutOf rs p)) o)))
+
+-- the same by what the code has in hand: the stratum found at the tip, the shaft cut, and the tip table read
+module _ (rs : List Row) (p : Pile) (h : refuses (early (depthOf rs) p) ≡ false) (s : Stratum) (e : s ≡ stratumAt rs (p .tip)) where
+  late-is : late (s .soil) (s .top) p ≡ late (soilAt rs (p .tip)) (runTop (soilAt rs) (soilAt rs (p .tip)) (p .tip)) p
+  late-is = ap (λ (x : Stratum). late (x .soil) (x .top) p) e
+
+  pub stratum-top : s .top ≤ p .tip
+  stratum-top = rw (ap (λ (x : Stratum). x .top) e) (top-le (soilAt rs) (soilAt rs (p .tip)) (p .tip))
+
+  module _ (n : ℕ) (l : refuse n ≡ late (s .soil) (s .top) p) where
+    pub no-tip : (n ≡ 0 → ⊥) → noWork (refuse n) ≡ workedOut rs p
+    no-tip k = ap noWork (l ∙ late-is) ∙ sym (tip-refused rs p h (number-on n _ (l ∙ late-is) k))
+
+    module _ (z : n ≡ 0) (c : Shaft) (cut : c ≡ shaftOf (cutOf rs p)) where
+      pub no-place : 83 < c .used → noWork (refuse 15) ≡ workedOut rs p
+      no-place o = sym (shaft-refused rs p h (number-off n _ (l ∙ late-is) z) (shaft-many (cutOf rs p) c cut o))
+
+      pub done : c .used ≤ 83 → (t : TipRead) (r : ℕ) (a : Answer) → t ≡ tipRead (tipOf p) (s .soil .index) → r ≡ pascals t → a ≡ numbers (s .soil) p r (c .total / 2000000)
+        → record { answer = a; used = c .used; bytes = c .bytes } ≡ workedOut rs p
+      unfolding resistance
+      done o t r a read q f =
+          let w = shaft-few (cutOf rs p) c cut o in
+          let u : s .soil ≡ soilAt rs (p .tip) = ap (λ (x : Stratum). x .soil) e in
+          let y : c .total ≡ total (cutOf rs p) = ap (λ (x : Shaft). x .total) (w .1) in
+          let m : a ≡ numbers (soilAt rs (p .tip)) p (resistance p (soilAt rs (p .tip))) (lineOf (cutOf rs p)) = f ∙ rw (q, read, y, u) in
+          ap₂ (λ (x : Answer) (y : Shaft). record { answer = x; used = y .used; bytes = y .bytes }) m (w .1) ∙ sym (all-passed rs p h (number-off n _ (l ∙ late-is) z) (w .0))
+
+-- and before that: the pile record read, and the log's depth
+module _ (rs : List Row) (s : List ℕ) (r : PileRead) (e : r ≡ readPile s) (l : length s ≡ 8) where
+  pub no-pile : (r .refusal .number ≡ 0 → ⊥) → noWork (r .refusal) ≡ workedOut rs (pileOf s)
+  no-pile h =
+      let q : r .refusal ≡ pileChecks (pileOf s) = pile-read s r e l .0 in
+      ap noWork q ∙ sym (pile-refused rs (pileOf s) (ap refuses (sym q) ∙ refusal-on (r .refusal) h))
+
+  module _ (z : r .refusal .number ≡ 0) where
+    passed : refuses (pileChecks (pileOf s)) ≡ false
+    passed = ap refuses (sym (pile-read s r e l .0)) ∙ refusal-off (r .refusal) z
+
+    pub pile-same : r .pile ≡ pileOf s
+    pile-same = pile-read s r e l .1 passed
+
+    module _ (d : ℕ) (f : d ≡ depthOf rs) (n : ℕ) (g : refuse n ≡ depthChecks d (r .pile)) where
+      depths : refuse n ≡ depthChecks (depthOf rs) (pileOf s)
+      depths = g ∙ ap₂ depthChecks f pile-same
+
+      pub no-depth : (n ≡ 0 → ⊥) → noWork (refuse n) ≡ workedOut rs (pileOf s)
+      no-depth h = ap noWork depths ∙ sym (depth-refused rs (pileOf s) passed (number-on n _ depths h))
+
+      pub past-depth : n ≡ 0 → refuses (early (depthOf rs) (r .pile)) ≡ false
+      past-depth h = ap (λ (x : Pile). refuses (early (depthOf rs) x)) pile-same ∙ depth-passed rs (pileOf s) passed (number-off n _ depths h)

@@ -1,0 +1,2 @@
+-- What a calculation is made of.
+pub mod Work

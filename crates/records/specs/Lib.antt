@@ -1,0 +1,3 @@
+-- What reading and packing need beside document 01's definitions.
+pub mod Word
+pub mod Rows

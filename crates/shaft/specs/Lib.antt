@@ -1,0 +1,3 @@
+-- What the walk along a log's rows is given, and what it finds.
+pub mod Log
+pub mod Cut
