@@ -53,15 +53,16 @@ module _ (p : Pile) (e : wrongPart p ≡ 0) where
 
   pub part-sides : Sides p
   part-sides = record {
-      round = λ s. ⊎-elim (λ w. within-high 150 2000 (p .a) (w .1))
+    round = λ s. ⊎-elim (λ w. within-high 150 2000 (p .a) (w .1))
         (λ w. absurd (true≢false (sym (eq-eqb (p .section) 1 s) ∙ w .0)))
         (picked (eqb (p .section) 1) _ _ (parts .0));
-      a = ⊎-elim (λ w. let l : p .a ≤ 2000 = within-high 150 2000 (p .a) (w .1) in omega arith)
+    a = ⊎-elim (λ w. let l : p .a ≤ 2000 = within-high 150 2000 (p .a) (w .1) in omega arith)
         (λ w. within-high 300 4000 (p .a) (w .1))
         (picked (eqb (p .section) 1) _ _ (parts .0));
-      b = ⊎-elim (λ w. let l : p .b ≡ 0 = eqb-true (p .b) 0 (w .1) in omega arith)
+    b = ⊎-elim (λ w. let l : p .b ≡ 0 = eqb-true (p .b) 0 (w .1) in omega arith)
         (λ w. within-high 300 4000 (p .b) (w .1))
-        (picked (eqb (p .section) 1) _ _ (parts .1)) }
+        (picked (eqb (p .section) 1) _ _ (parts .1));
+  }
 
 pub sides : (p : Pile) → refuses (pileChecks p) ≡ false → Sides p
 unfolding pileChecks sectionCheck

@@ -29,12 +29,12 @@ module _ (log pile table : List ℕ) (p : Passes log) (l : Lent pile table) wher
   past : refuses (lentChecks log pile table) ≡ false
   unfolding lentChecks
   past =
-      let long : lengthsWrong log pile table ≡ false = rw (eq-eqb (length log) 321 (p .long), eq-eqb (length pile) 8 (l .record-long), eq-eqb (length table) 581 (l .table-long)) in
+      let long : lengthsWrong log pile table ≡ false = rw (eq-eqb (length log) logSize (p .long), eq-eqb (length pile) pileSize (l .record-long), eq-eqb (length table) tableSize (l .table-long)) in
       first-none (when (lengthsWrong log pile table) 1) (logChecks log) (ap refuses (when-false 1 _ long)) (p .right)
 
   -- A log that passes is answered by the millimetres of its ground, and its table holds that ground's slices.
   pub answered : (calculated log pile table ≡ answer (soilAt (rowsOf log)) (depthOf (rowsOf log)) (pileOf pile))
-    × (tableAfter log pile table ≡ tableBytes (slices (soilAt (rowsOf log)) (depthOf (rowsOf log)) (pileOf pile)))
+      × (tableAfter log pile table ≡ tableBytes (slices (soilAt (rowsOf log)) (depthOf (rowsOf log)) (pileOf pile)))
   unfolding calculated tableAfter freshAnswer freshTable answerOf slicesOfRows
   answered = (rw past, rw past)
 
@@ -44,7 +44,7 @@ module _ (log pile table : List ℕ) (p : Passes log) (l : Lent pile table) wher
 
 -- "Rows do not matter, only millimetres do."
 pub typing-does-not-matter : (a b pile t u : List ℕ) → Passes a → Passes b → Lent pile t → Lent pile u → Agree (rowsOf a) (rowsOf b)
-  → (calculated a pile t ≡ calculated b pile u) × (tableAfter a pile t ≡ tableAfter b pile u)
+    → (calculated a pile t ≡ calculated b pile u) × (tableAfter a pile t ≡ tableAfter b pile u)
 typing-does-not-matter a b pile t u pa pb lt lu h =
     let same = only-millimetres (rowsOf a) (rowsOf b) (pileOf pile) h in
     let x = reply-is a pile t pa lt in

@@ -12,6 +12,7 @@ use Rattle.rules.specs.declared.Row.{Row}
 use Rattle.rules.specs.declared.Log.{Log}
 use Rattle.rules.specs.declared.LogRead.{LogRead}
 use Rattle.rules.specs.Base.{pick, refuse, nothing, refuses, within, when, first}
+use Rattle.rules.specs.Limits.{rowLimit, logSize, depthLimit}
 use Rattle.rules.specs.Packed.{rowAt, rowsFrom, countOf, logOf, rowsOf}
 use Rattle.rules.specs.Checks.{longOther, countWrong, unusedWrong, wrongField, firstWrong, depthOf, fieldChecks, logChecks}
 use Rattle.rules.specs.Reading.{readLog}
@@ -35,15 +36,15 @@ unfolding rowsFrom
 rows-long s at zero = refl
 rows-long s at (suc n) = ap suc (rows-long s (at + 40) n)
 
-pub used-rows : (s : List ℕ) → countOf s ≤ 64 → usedRows (logOf s) ≡ rowsOf s
+pub used-rows : (s : List ℕ) → countOf s ≤ rowLimit → usedRows (logOf s) ≡ rowsOf s
 unfolding logOf rowsOf
 used-rows s h =
-    let e : 64 ≡ countOf s + (64 - countOf s) = omega arith in
-    ap (λ (n : ℕ). take (countOf s) (rowsFrom s 8 n)) e ∙ take-rows s 8 (countOf s) (64 - countOf s)
+    let e : rowLimit ≡ countOf s + (rowLimit - countOf s) = omega arith in
+    ap (λ (n : ℕ). take (countOf s) (rowsFrom s 8 n)) e ∙ take-rows s 8 (countOf s) (rowLimit - countOf s)
 
-pub log-placed : (s : List ℕ) → countOf s ≤ 64 → Placed (logOf s)
+pub log-placed : (s : List ℕ) → countOf s ≤ rowLimit → Placed (logOf s)
 unfolding logOf
-log-placed s h = record { room = rows-long s 8 64; count = h }
+log-placed s h = record { room = rows-long s 8 rowLimit; count = h }
 
 -- a wrong field that is picked where its number is above 0
 not-picked : (f : ℕ) (r on : Refusal) → refuses r ≡ true → refuses (pick (ltb 0 f) r on) ≡ false → (f ≡ 0) × (refuses on ≡ false)
@@ -55,7 +56,7 @@ not-picked f r on h e = go (ltb 0 f) refl e
 
 row-full : (r : Row) → wrongField r ≡ 0 → 0 < r .thickness
 unfolding wrongField
-row-full r e = let l : 1 ≤ r .thickness = within-low 1 60000 (r .thickness) (none-picked (within 1 60000 (r .thickness)) _ 0 e .0) in omega arith
+row-full r e = let l : 1 ≤ r .thickness = within-low 1 depthLimit (r .thickness) (none-picked (within 1 depthLimit (r .thickness)) _ 0 e .0) in omega arith
 
 rows-full : (k : ℕ) (rs : List Row) → refuses (firstWrong k rs) ≡ false → Positive rs
 unfolding firstWrong
@@ -78,12 +79,12 @@ fields-right s e =
     let o = first-off (when (unusedWrong s) 2) (firstWrong 1 (rowsOf s)) e in
     first-right _ _ (o .0) ∙ rows-right 1 (rowsOf s) (o .1)
 
-few-rows : (s : List ℕ) → refuses (fieldChecks s) ≡ false → countOf s ≤ 64
+few-rows : (s : List ℕ) → refuses (fieldChecks s) ≡ false → countOf s ≤ rowLimit
 unfolding fieldChecks unusedWrong
 few-rows s e =
     let u = when-off 1 (unusedWrong s) (first-off (when (unusedWrong s) 2) (firstWrong 1 (rowsOf s)) e .0) in
     let n : countWrong (countOf s) ≡ false = either-left _ _ u in
-    ltb-false 64 (countOf s) (either-right (eqb (countOf s) 0) (ltb 64 (countOf s)) n)
+    ltb-false rowLimit (countOf s) (either-right (eqb (countOf s) 0) (ltb rowLimit (countOf s)) n)
 
 full-rows : (s : List ℕ) → refuses (fieldChecks s) ≡ false → Positive (rowsOf s)
 unfolding fieldChecks
@@ -99,12 +100,12 @@ first-first a b c = go (refuses a) refl
     go false e = refl
 
 abbrev over : List ℕ → Refusal
-over s = when (ltb 60000 (depthOf (rowsOf s))) 4
+over s = when (ltb depthLimit (depthOf (rowsOf s))) 4
 
 module _ (s : List ℕ) (r : LogRead) (e : r ≡ readLog s) where
   refusals : first (r .refusal) (over s) ≡ checkedLog s .refusal
   unfolding readLog checkedLog logChecks
-  refusals = ap (λ (x : LogRead). first (x .refusal) (over s)) e ∙ first-first (when (longOther 321 s) 1) (fieldChecks s) (over s)
+  refusals = ap (λ (x : LogRead). first (x .refusal) (over s)) e ∙ first-first (when (longOther logSize s) 1) (fieldChecks s) (over s)
 
   log-is : r .log ≡ checkedLog s .log
   unfolding checkedLog
@@ -116,9 +117,9 @@ module _ (s : List ℕ) (r : LogRead) (e : r ≡ readLog s) where
       λ i. record { refusal = q i; log = log-is i }
 
   module _ (z : r .refusal .number ≡ 0) where
-    parts : (refuses (when (longOther 321 s) 1) ≡ false) × (refuses (fieldChecks s) ≡ false)
+    parts : (refuses (when (longOther logSize s) 1) ≡ false) × (refuses (fieldChecks s) ≡ false)
     unfolding readLog
-    parts = first-off (when (longOther 321 s) 1) (fieldChecks s) (ap (λ (x : LogRead). refuses (x .refusal)) (sym e) ∙ refusal-off (r .refusal) z)
+    parts = first-off (when (longOther logSize s) 1) (fieldChecks s) (ap (λ (x : LogRead). refuses (x .refusal)) (sym e) ∙ refusal-off (r .refusal) z)
 
     fields : refuses (fieldChecks s) ≡ false
     fields = parts .1
@@ -144,32 +145,32 @@ module _ (s : List ℕ) (r : LogRead) (e : r ≡ readLog s) where
       deep : d ≡ depthOf (rowsOf s)
       deep = f ∙ ap depthOf read-rows
 
-      pub read-over : 60000 < d → record { refusal = refuse 4; log = r .log } ≡ checkedLog s
+      pub read-over : depthLimit < d → record { refusal = refuse 4; log = r .log } ≡ checkedLog s
       read-over h =
-          let o : over s ≡ refuse 4 = when-true 4 _ (lt-ltb 60000 (depthOf (rowsOf s)) (omega (arith, deep))) in
+          let o : over s ≡ refuse 4 = when-true 4 _ (lt-ltb depthLimit (depthOf (rowsOf s)) (omega (arith, deep))) in
           let q : refuse 4 ≡ checkedLog s .refusal = sym (first-right (r .refusal) (over s) (refusal-off (r .refusal) z) ∙ o) ∙ refusals in
           λ i. record { refusal = q i; log = log-is i }
 
-      pub read-passed : d ≤ 60000 → r ≡ checkedLog s
+      pub read-passed : d ≤ depthLimit → r ≡ checkedLog s
       read-passed h =
-          let o : over s ≡ refuse 0 = when-false 4 _ (le-ltb 60000 (depthOf (rowsOf s)) (omega (arith, deep))) in
+          let o : over s ≡ refuse 0 = when-false 4 _ (le-ltb depthLimit (depthOf (rowsOf s)) (omega (arith, deep))) in
           let q : r .refusal ≡ checkedLog s .refusal = none ∙ sym (first-right (r .refusal) (over s) (refusal-off (r .refusal) z) ∙ o) ∙ refusals in
           λ i. record { refusal = q i; log = log-is i }
 
-kept : (s : List ℕ) → refuses (when (longOther 321 s) 1) ≡ false → refuses (fieldChecks s) ≡ false → readLog s .log ≡ logOf s
+kept : (s : List ℕ) → refuses (when (longOther logSize s) 1) ≡ false → refuses (fieldChecks s) ≡ false → readLog s .log ≡ logOf s
 unfolding readLog
-kept s h k = rw (first-none (when (longOther 321 s) 1) (fieldChecks s) h k)
+kept s h k = rw (first-none (when (longOther logSize s) 1) (fieldChecks s) h k)
 
 -- a log that passes, by its checked reading
 pub good-log : (s : List ℕ) (r : LogRead) → r ≡ checkedLog s → r .refusal .number ≡ 0 → Good (r .log) × (usedRows (r .log) ≡ rowsOf s)
 unfolding checkedLog logChecks
 good-log s r e z =
-    let none : refuses (first (when (longOther 321 s) 1) (first (fieldChecks s) (over s))) ≡ false
-          = ap (λ (x : LogRead). refuses (x .refusal)) (sym e) ∙ refusal-off (r .refusal) z in
-    let one = first-off (when (longOther 321 s) 1) (first (fieldChecks s) (over s)) none in
+    let none : refuses (first (when (longOther logSize s) 1) (first (fieldChecks s) (over s))) ≡ false
+    = ap (λ (x : LogRead). refuses (x .refusal)) (sym e) ∙ refusal-off (r .refusal) z in
+    let one = first-off (when (longOther logSize s) 1) (first (fieldChecks s) (over s)) none in
     let two = first-off (fieldChecks s) (over s) (one .1) in
-    let deep : depthOf (rowsOf s) ≤ 60000 = ltb-false 60000 (depthOf (rowsOf s)) (when-off 3 _ (two .1)) in
-    let few : countOf s ≤ 64 = few-rows s (two .0) in
+    let deep : depthOf (rowsOf s) ≤ depthLimit = ltb-false depthLimit (depthOf (rowsOf s)) (when-off 3 _ (two .1)) in
+    let few : countOf s ≤ rowLimit = few-rows s (two .0) in
     let is : r .log ≡ logOf s = ap (λ (x : LogRead). x .log) e ∙ kept s (one .0) (two .0) in
     let rows : usedRows (r .log) ≡ rowsOf s = ap usedRows is ∙ used-rows s few in
     (record { placed = rw is (log-placed s few); full = rw rows (full-rows s (two .0)); deep = rw rows deep }, rows)

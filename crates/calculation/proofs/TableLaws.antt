@@ -16,6 +16,7 @@ use Rattle.rules.specs.declared.Slice.{Slice}
 use Rattle.rules.specs.declared.Answer.{Answer}
 use Rattle.rules.specs.declared.LogRead.{LogRead}
 use Rattle.rules.specs.Base.{pick, either, refuse, refuses, when, first}
+use Rattle.rules.specs.Limits.{logSize, pileSize, placeLimit, sliceSize, tableSize}
 use Rattle.rules.specs.Packed.{rowsOf, pileOf, slicesBytes, tableBytes}
 use Rattle.rules.specs.Checks.{longOther, depthOf}
 use Rattle.rules.specs.Answers.{refused, early, late, tooMany, checksFrom, slicesFrom, slices}
@@ -44,30 +45,30 @@ copied-all d e s n i h l k q =
     q ∙ ap₂ (λ (x y : List ℕ). x ++ y) (take-all i s (omega arith)) (let m : length d ≤ i = omega arith in drop-of-length-le d m) ∙ append-nil s
 
 -- no more slices are held than a table has places
-held-few : (r : Refusal) (cs : List Slice) → (refuses r ≡ false → length cs ≤ 83) → length (pick (refuses r) [] cs) ≤ 83
+held-few : (r : Refusal) (cs : List Slice) → (refuses r ≡ false → length cs ≤ placeLimit) → length (pick (refuses r) [] cs) ≤ placeLimit
 held-few r cs h = go (refuses r) refl
   where
-    go : (t : Bool) → refuses r ≡ t → length (pick t [] cs) ≤ 83
+    go : (t : Bool) → refuses r ≡ t → length (pick t [] cs) ≤ placeLimit
     go true e = omega arith
     go false e = h e
 
-passed : (d : ℕ) (s : Soil) (t : ℕ) (cs : List Slice) (p : Pile) → refuses (checksFrom d s t cs p) ≡ false → length cs ≤ 83
+passed : (d : ℕ) (s : Soil) (t : ℕ) (cs : List Slice) (p : Pile) → refuses (checksFrom d s t cs p) ≡ false → length cs ≤ placeLimit
 unfolding checksFrom
 passed d s t cs p h =
     let one = first-off (early d p) (first (late s t p) (when (tooMany (length cs)) 15)) h in
     let two = first-off (late s t p) (when (tooMany (length cs)) 15) (one .1) in
-    ltb-false 83 (length cs) (when-off 14 (tooMany (length cs)) (two .1))
+    ltb-false placeLimit (length cs) (when-off 14 (tooMany (length cs)) (two .1))
 
-pub few-slices : (rs : List Row) (p : Pile) → length (slicesOfRows rs p) ≤ 83
+pub few-slices : (rs : List Row) (p : Pile) → length (slicesOfRows rs p) ≤ placeLimit
 unfolding slicesOfRows slices slicesFrom
 few-slices rs p = held-few (checksFrom (depthOf rs) _ _ (cutOf rs p) p) (cutOf rs p) (passed (depthOf rs) _ _ (cutOf rs p) p)
 
-pub work-long : (rs : List Row) (p : Pile) (w : Worked) → w ≡ workedOut rs p → length (w .bytes) ≡ 581
+pub work-long : (rs : List Row) (p : Pile) (w : Worked) → w ≡ workedOut rs p → length (w .bytes) ≡ tableSize
 unfolding workedOut tableBytes
 work-long rs p w e =
     let cs : List Slice = slicesOfRows rs p in
     ap (λ (x : Worked). length (x .bytes)) e
-    ∙ omega (arith, few-slices rs p, length-append (slicesBytes cs) (replicate (581 - length cs * 7) 0), bytes-long cs, length-replicate {A = ℕ} (581 - length cs * 7) 0)
+    ∙ omega (arith, few-slices rs p, length-append (slicesBytes cs) (replicate (tableSize - length cs * sliceSize) 0), bytes-long cs, length-replicate {A = ℕ} (tableSize - length cs * sliceSize) 0)
 
 either-none : (b : Bool) → either b false ≡ b
 either-none true = refl
@@ -86,28 +87,29 @@ module _ (log pile table : List ℕ) where
   unfolding calculated tableAfter lentChecks first when
   wrong h = (rw h, rw h)
 
-  pub pile-long : (length pile ≡ 8 → ⊥) → (refused (refuse 1) ≡ calculated log pile table) × (table ≡ tableAfter log pile table)
-  pile-long h = wrong (either-second (longOther 321 log) (longOther 8 pile) (longOther 581 table) (rw (ne-eqb (length pile) 8 h)))
+  pub pile-long : (length pile ≡ pileSize → ⊥) → (refused (refuse 1) ≡ calculated log pile table) × (table ≡ tableAfter log pile table)
+  pile-long h = wrong (either-second (longOther logSize log) (longOther pileSize pile) (longOther tableSize table) (rw (ne-eqb (length pile) pileSize h)))
 
-  pub table-long : (length table ≡ 581 → ⊥) → (refused (refuse 1) ≡ calculated log pile table) × (table ≡ tableAfter log pile table)
+  pub table-long : (length table ≡ tableSize → ⊥) → (refused (refuse 1) ≡ calculated log pile table) × (table ≡ tableAfter log pile table)
   table-long h =
-      let t : longOther 581 table ≡ true = rw (ne-eqb (length table) 581 h) in
-      wrong (either-second (longOther 321 log) (longOther 8 pile) (longOther 581 table) (either-third (longOther 8 pile) _ t))
+      let t : longOther tableSize table ≡ true = rw (ne-eqb (length table) tableSize h) in
+      wrong (either-second (longOther logSize log) (longOther pileSize pile) (longOther tableSize table) (either-third (longOther pileSize pile) _ t))
 
-  module _ (p : length pile ≡ 8) (t : length table ≡ 581) (r : LogRead) (e : r ≡ checkedLog log) where
+  module _ (p : length pile ≡ pileSize) (t : length table ≡ tableSize) (r : LogRead) (e : r ≡ checkedLog log) where
     checks : lentChecks log pile table ≡ r .refusal
     unfolding lentChecks checkedLog
     checks =
-        rw (eq-eqb (length pile) 8 p, eq-eqb (length table) 581 t, either-none (longOther 321 log)) (sym (ap (λ (x : LogRead). x .refusal) e))
+        rw (eq-eqb (length pile) pileSize p, eq-eqb (length table) tableSize t, either-none (longOther logSize log)) (sym (ap (λ (x : LogRead). x .refusal) e))
 
     pub log-refused : (r .refusal .number ≡ 0 → ⊥) → (refused (r .refusal) ≡ calculated log pile table) × (table ≡ tableAfter log pile table)
     unfolding calculated tableAfter
     log-refused h = (rw (checks, refusal-on (r .refusal) h), rw (checks, refusal-on (r .refusal) h))
 
     pub worked : r .refusal .number ≡ 0 → (w : Worked) → w ≡ workedOut (usedRows (r .log)) (pileOf pile)
-      → (w .answer ≡ calculated log pile table) × (w .bytes ≡ tableAfter log pile table)
+        → (w .answer ≡ calculated log pile table) × (w .bytes ≡ tableAfter log pile table)
     unfolding calculated tableAfter freshAnswer freshTable workedOut
     worked z w f =
-        let g : w ≡ workedOut (rowsOf log) (pileOf pile) = f ∙ ap (λ (x : List Row). workedOut x (pileOf pile)) (good-log log r e z .1) in
-        (ap (λ (x : Worked). x .answer) g ∙ rw (checks, refusal-off (r .refusal) z),
-         ap (λ (x : Worked). x .bytes) g ∙ rw (checks, refusal-off (r .refusal) z))
+        let g : w ≡ workedOut (rowsOf log) (pileOf pile) = f ∙ ap (λ (x : List Row). workedOut x (pileOf pile)) (good-log log r e z .1) in (
+          ap (λ (x : Worked). x .answer) g ∙ rw (checks, refusal-off (r .refusal) z),
+          ap (λ (x : Worked). x .bytes) g ∙ rw (checks, refusal-off (r .refusal) z),
+        )

@@ -3,7 +3,7 @@ use mathlib.Core.Path.{_≡_, refl, sym, _∙_, ap, ap₂}
 use mathlib.Core.Bool.{Bool, true, false}
 use mathlib.Core.Logic.{_⊎_, inl, inr, ⊎-elim}
 use mathlib.Core.List.{List, [], _∷_}
-use Prim.Native.Nat.{ℕ, zero, suc, _/_, _<_, _≤_}
+use Prim.Native.Nat.{ℕ, zero, suc, _+_, _/_, _<_, _≤_}
 use native.Mathlib.Omega.{arith}
 use lib.Dec.{ltb}
 use lib.ListN.{length}
@@ -17,6 +17,7 @@ use Rattle.rules.specs.declared.Answer.{Answer}
 use Rattle.rules.specs.declared.PileRead.{PileRead}
 use Rattle.rules.specs.declared.TipRead.{TipRead}
 use Rattle.rules.specs.Base.{pick, refuse, refuses, when, first}
+use Rattle.rules.specs.Limits.{pileSize, placeLimit}
 use Rattle.rules.specs.Packed.{pileOf, slicesBytes, tableBytes}
 use Rattle.rules.specs.Checks.{longOther, pileChecks, depthOf}
 use Rattle.rules.specs.Reading.{readPile}
@@ -47,37 +48,38 @@ pub refusal-off : (r : Refusal) → r .number ≡ 0 → refuses r ≡ false
 refusal-off r h = le-ltb 0 (r .number) (omega arith)
 
 -- a pile record of the right length, as reading gives it
-pub pile-read : (s : List ℕ) (r : PileRead) → r ≡ readPile s → length s ≡ 8
-  → (r .refusal ≡ pileChecks (pileOf s)) × (refuses (pileChecks (pileOf s)) ≡ false → r .pile ≡ pileOf s)
+pub pile-read : (s : List ℕ) (r : PileRead) → r ≡ readPile s → length s ≡ pileSize
+    → (r .refusal ≡ pileChecks (pileOf s)) × (refuses (pileChecks (pileOf s)) ≡ false → r .pile ≡ pileOf s)
 unfolding readPile
 pile-read s r e l =
-    let long : first (when (longOther 8 s) 1) (pileChecks (pileOf s)) ≡ pileChecks (pileOf s)
-          = first-right _ _ (ap refuses (when-false 1 (longOther 8 s) (rw (eq-eqb (length s) 8 l)))) in
-    (ap (λ (x : PileRead). x .refusal) e ∙ long,
-     λ h. ap (λ (x : PileRead). x .pile) e ∙ rw (long, h))
+    let long : first (when (longOther pileSize s) 1) (pileChecks (pileOf s)) ≡ pileChecks (pileOf s)
+    = first-right _ _ (ap refuses (when-false 1 (longOther pileSize s) (rw (eq-eqb (length s) pileSize l)))) in (
+      ap (λ (x : PileRead). x .refusal) e ∙ long,
+      λ h. ap (λ (x : PileRead). x .pile) e ∙ rw (long, h),
+    )
 
 -- a shaft that a table holds, and one that it does not
-pub shaft-few : (cs : List Slice) (c : Shaft) → c ≡ shaftOf cs → c .used ≤ 83 → (length cs ≤ 83) × (c ≡ record { bytes = tableBytes cs; used = length cs; total = total cs })
+pub shaft-few : (cs : List Slice) (c : Shaft) → c ≡ shaftOf cs → c .used ≤ placeLimit → (length cs ≤ placeLimit) × (c ≡ record { bytes = tableBytes cs; used = length cs; total = total cs })
 unfolding shaftOf
 shaft-few cs c e h =
     ⊎-elim
-    (λ (l : 83 < length cs).
-      let o : shaftOf cs ≡ noShaft = rw (lt-ltb 83 (length cs) l) in
-      let k : c .used ≡ 84 = ap (λ (x : Shaft). x .used) (e ∙ o) in
-      absurd (omega arith))
-    (λ (l : length cs ≤ 83). (l, e ∙ rw (le-ltb 83 (length cs) l)))
-    (split 83 (length cs))
+    (λ (l : placeLimit < length cs).
+    let o : shaftOf cs ≡ noShaft = rw (lt-ltb placeLimit (length cs) l) in
+    let k : c .used ≡ placeLimit + 1 = ap (λ (x : Shaft). x .used) (e ∙ o) in
+    absurd (omega arith))
+    (λ (l : length cs ≤ placeLimit). (l, e ∙ rw (le-ltb placeLimit (length cs) l)))
+    (split placeLimit (length cs))
 
-pub shaft-many : (cs : List Slice) (c : Shaft) → c ≡ shaftOf cs → 83 < c .used → 83 < length cs
+pub shaft-many : (cs : List Slice) (c : Shaft) → c ≡ shaftOf cs → placeLimit < c .used → placeLimit < length cs
 unfolding shaftOf
 shaft-many cs c e h =
     ⊎-elim
-    (λ (l : 83 < length cs). l)
-    (λ (l : length cs ≤ 83).
-      let o : shaftOf cs ≡ record { bytes = tableBytes cs; used = length cs; total = total cs } = rw (le-ltb 83 (length cs) l) in
-      let k : c .used ≡ length cs = ap (λ (x : Shaft). x .used) (e ∙ o) in
-      absurd (omega arith))
-    (split 83 (length cs))
+    (λ (l : placeLimit < length cs). l)
+    (λ (l : length cs ≤ placeLimit).
+    let o : shaftOf cs ≡ record { bytes = tableBytes cs; used = length cs; total = total cs } = rw (le-ltb placeLimit (length cs) l) in
+    let k : c .used ≡ length cs = ap (λ (x : Shaft). x .used) (e ∙ o) in
+    absurd (omega arith))
+    (split placeLimit (length cs))
 
 pub top-le : (g : ℕ → Soil) (s : Soil) (n : ℕ) → runTop g s n ≤ n
 unfolding runTop
@@ -104,7 +106,7 @@ module _ (rs : List Row) (p : Pile) where
   work-refused r e h = rw (e, h)
 
   work-passed : refuses checks ≡ false
-    → workedOut rs p ≡ record { answer = numbers below p (resistance p below) (lineOf (cutOf rs p)); used = length (cutOf rs p); bytes = tableBytes (cutOf rs p) }
+      → workedOut rs p ≡ record { answer = numbers below p (resistance p below) (lineOf (cutOf rs p)); used = length (cutOf rs p); bytes = tableBytes (cutOf rs p) }
   unfolding workedOut answerOf answer answerFrom slicesOfRows slices slicesFrom
   work-passed h = rw h
 
@@ -136,12 +138,12 @@ module _ (rs : List Row) (p : Pile) where
   pub tip-refused : refuses (early (depthOf rs) p) ≡ false → refuses (late below top p) ≡ true → workedOut rs p ≡ noWork (late below top p)
   tip-refused h k = work-refused (late below top p) (late-checks h ∙ first-left _ _ k) k
 
-  pub shaft-refused : refuses (early (depthOf rs) p) ≡ false → refuses (late below top p) ≡ false → 83 < length (cutOf rs p) → workedOut rs p ≡ noWork (refuse 15)
-  shaft-refused h k o = work-refused (refuse 15) (late-checks h ∙ first-right _ _ k ∙ when-true 15 _ (lt-ltb 83 (length (cutOf rs p)) o)) refl
+  pub shaft-refused : refuses (early (depthOf rs) p) ≡ false → refuses (late below top p) ≡ false → placeLimit < length (cutOf rs p) → workedOut rs p ≡ noWork (refuse 15)
+  shaft-refused h k o = work-refused (refuse 15) (late-checks h ∙ first-right _ _ k ∙ when-true 15 _ (lt-ltb placeLimit (length (cutOf rs p)) o)) refl
 
-  pub all-passed : refuses (early (depthOf rs) p) ≡ false → refuses (late below top p) ≡ false → length (cutOf rs p) ≤ 83
-    → workedOut rs p ≡ record { answer = numbers below p (resistance p below) (lineOf (cutOf rs p)); used = length (cutOf rs p); bytes = tableBytes (cutOf rs p) }
-  all-passed h k o = work-passed (ap refuses (late-checks h ∙ first-right _ _ k ∙ when-false 15 _ (le-ltb 83 (length (cutOf rs p)) o)))
+  pub all-passed : refuses (early (depthOf rs) p) ≡ false → refuses (late below top p) ≡ false → length (cutOf rs p) ≤ placeLimit
+      → workedOut rs p ≡ record { answer = numbers below p (resistance p below) (lineOf (cutOf rs p)); used = length (cutOf rs p); bytes = tableBytes (cutOf rs p) }
+  all-passed h k o = work-passed (ap refuses (late-checks h ∙ first-right _ _ k ∙ when-false 15 _ (le-ltb placeLimit (length (cutOf rs p)) o)))
 
 -- the same by what the code has in hand: the stratum found at the tip, the shaft cut, and the tip table read
 module _ (rs : List Row) (p : Pile) (h : refuses (early (depthOf rs) p) ≡ false) (s : Stratum) (e : s ≡ stratumAt rs (p .tip)) where
@@ -156,11 +158,11 @@ module _ (rs : List Row) (p : Pile) (h : refuses (early (depthOf rs) p) ≡ fals
     no-tip k = ap noWork (l ∙ late-is) ∙ sym (tip-refused rs p h (number-on n _ (l ∙ late-is) k))
 
     module _ (z : n ≡ 0) (c : Shaft) (cut : c ≡ shaftOf (cutOf rs p)) where
-      pub no-place : 83 < c .used → noWork (refuse 15) ≡ workedOut rs p
+      pub no-place : placeLimit < c .used → noWork (refuse 15) ≡ workedOut rs p
       no-place o = sym (shaft-refused rs p h (number-off n _ (l ∙ late-is) z) (shaft-many (cutOf rs p) c cut o))
 
-      pub done : c .used ≤ 83 → (t : TipRead) (r : ℕ) (a : Answer) → t ≡ tipRead (tipOf p) (s .soil .index) → r ≡ pascals t → a ≡ numbers (s .soil) p r (c .total / 2000000)
-        → record { answer = a; used = c .used; bytes = c .bytes } ≡ workedOut rs p
+      pub done : c .used ≤ placeLimit → (t : TipRead) (r : ℕ) (a : Answer) → t ≡ tipRead (tipOf p) (s .soil .index) → r ≡ pascals t → a ≡ numbers (s .soil) p r (c .total / 2000000)
+          → record { answer = a; used = c .used; bytes = c .bytes } ≡ workedOut rs p
       unfolding resistance
       done o t r a read q f =
           let w = shaft-few (cutOf rs p) c cut o in
@@ -170,7 +172,7 @@ module _ (rs : List Row) (p : Pile) (h : refuses (early (depthOf rs) p) ≡ fals
           ap₂ (λ (x : Answer) (y : Shaft). record { answer = x; used = y .used; bytes = y .bytes }) m (w .1) ∙ sym (all-passed rs p h (number-off n _ (l ∙ late-is) z) (w .0))
 
 -- and before that: the pile record read, and the log's depth
-module _ (rs : List Row) (s : List ℕ) (r : PileRead) (e : r ≡ readPile s) (l : length s ≡ 8) where
+module _ (rs : List Row) (s : List ℕ) (r : PileRead) (e : r ≡ readPile s) (l : length s ≡ pileSize) where
   pub no-pile : (r .refusal .number ≡ 0 → ⊥) → noWork (r .refusal) ≡ workedOut rs (pileOf s)
   no-pile h =
       let q : r .refusal ≡ pileChecks (pileOf s) = pile-read s r e l .0 in

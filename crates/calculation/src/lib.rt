@@ -1,8 +1,13 @@
 // The plain calculation: checks 1 to 12 and 15 in order, the six roundings, and the slice table.
 mod numbers;
 mod refusals;
-use numbers::{five_numbers, pascals};
-use refusals::{depth_refusal, refuse, refused, tip_refusal};
+
+use numbers::five_numbers;
+use numbers::pascals;
+use refusals::depth_refusal;
+use refusals::refuse;
+use refusals::refused;
+use refusals::tip_refusal;
 ghost use mathlib.Core.Path.{_≡_};
 ghost use mathlib.Core.Bool.{false};
 ghost use lib.ListN.{length};
@@ -19,17 +24,18 @@ use rules::Log;
 use rules::LogRead;
 use rules::Pile;
 use rules::Refusal;
+use shaft::PLACES;
+use shaft::TABLE_SIZE;
 
-const LOG_LIMIT: u64 = 60000;
+const DEPTH_LIMIT: u64 = 60000;
+
 const PILE_SIZE: usize = 8;
-const TABLE_SIZE: usize = 581;
-const PLACES: usize = 83;
 
 // What is worked out of a log and a pile record: the answer, how many slices it has, and the table that holds them.
 pub struct Worked {
     pub answer: Answer,
     pub used: usize,
-    pub bytes: [u8; 581],
+    pub bytes: [u8; TABLE_SIZE],
 }
 
 fn no_work(refusal: Refusal) -> Worked
@@ -39,7 +45,7 @@ fn no_work(refusal: Refusal) -> Worked
     Worked {
         answer: answer,
         used: 0,
-        bytes: [0; 581],
+        bytes: [0; TABLE_SIZE],
     }
 }
 
@@ -98,7 +104,7 @@ pub fn checked_log(log: &[u8]) -> LogRead
         return read;
     }
     let rows = read.log;
-    if LOG_LIMIT < shaft::depth_of(rows) {
+    if DEPTH_LIMIT < shaft::depth_of(rows) {
         let four = refuse(4);
         return LogRead {
             refusal: four,
@@ -109,7 +115,7 @@ pub fn checked_log(log: &[u8]) -> LogRead
 }
 
 // The table that was worked out into the lent one.
-pub fn put_table(table: &mut [u8], bytes: &[u8; 581])
+pub fn put_table(table: &mut [u8], bytes: &[u8; TABLE_SIZE])
     requires { ⌜ (length (now table) ≡ tableSize) × (length (now bytes) ≡ tableSize) ⌝ }
     ensures { λ _. ⌜ now (table .exit) ≡ now (bytes .entry) ⌝ }
 {

@@ -2,13 +2,14 @@
 use mathlib.Core.Path.{_≡_, refl, ap, ap₂, sym, _∙_}
 use mathlib.Core.Bool.{Bool, true, false}
 use mathlib.Core.List.{List, [], _∷_, _++_, append-assoc, append-nil, map}
-use Prim.Native.Nat.{ℕ, zero, suc, _+_, _*_, _-_, _<_, _≤_}
+use Prim.Native.Nat.{ℕ, zero, suc, _+_, _*_, _-_, _<_, _≤_, min}
+use native.Mathlib.Nat.{suc-min-suc}
 use native.Mathlib.Numerals.{add-one}
 use native.Mathlib.Omega.{arith}
 use borrow.Author.Tests.{lt-ltb, le-ltb, eq-eqb, ne-eqb}
 use lib.Dec.{eqb, ltb}
 use lib.ListN.{length, getD, take, drop, set, length-take, length-drop, length-append, length-map, drop-of-length-le}
-use lib.Seq.{drop-cons, getD-take, getD-drop, paste, drop-drop}
+use lib.Seq.{take-nil, drop-cons, getD-take, getD-drop, paste, drop-drop}
 use Rattle.rules.specs.declared.Row.{Row}
 use Rattle.rules.specs.declared.Log.{Log}
 use Rattle.rules.specs.declared.Refusal.{Refusal}
@@ -33,10 +34,16 @@ row-of n i rs h l =
 none-of : (n i : ℕ) (rs : List Row) → n ≤ i → drop i (take n rs) ≡ []
 none-of n i rs h = let k : length (take n rs) ≤ i = omega (arith, length-take n rs) in drop-of-length-le (take n rs) k
 
--- check 3, i rows being right
-pub checked-start : (n : ℕ) (rs : List Row) → firstWrong 1 (drop 0 (take n rs)) ≡ firstWrong 1 (take n rs)
-checked-start n rs = refl
+-- A count over the limit means all places.
+take-min : (n : ℕ) (rs : List Row) → take (min n (length rs)) rs ≡ take n rs
+take-min zero rs = let e : min 0 (length rs) ≡ 0 = omega arith in rw e
+take-min (suc n) [] = take-nil (min (suc n) 0)
+take-min (suc n) (r ∷ rs) = rw suc-min-suc (ap (λ (t : List Row). r ∷ t) (take-min n rs))
 
+pub used-rows : (n : ℕ) (rs : List Row) → length rs ≡ rowLimit → firstWrong 1 (take (min n rowLimit) rs) ≡ firstWrong 1 (take n rs)
+used-rows n rs e = ap (firstWrong 1) (ap (λ (k : ℕ). take (min n k) rs) (sym e) ∙ take-min n rs)
+
+-- check 3, i rows being right
 pub checked-wrong : (n i f : ℕ) (rs : List Row) (all : Refusal) → i < n → n ≤ length rs → f ≡ wrongField (getD rs i noRow) → 0 < f → firstWrong (i + 1) (drop i (take n rs)) ≡ all
     → _≡_ {A = Refusal} (record { number = 3; row = i + 1; field = f }) all
 checked-wrong n i f rs all h l e g k = wrong-here (i + 1) f (getD rs i noRow) _ e g ∙ ap (firstWrong (i + 1)) (row-of n i rs h l) ∙ k
@@ -67,20 +74,18 @@ pub unused-end : (n i : ℕ) (rs : List Row) (all : Bool) → n ≤ i → rowsZe
 unfolding rowsZero
 unused-end n i rs all h k = rw (none-of n i rs h) at k
 
--- checks 2 and 3 of fields
-pub count-refused : (l : Log) → countWrong (l .count) ≡ true → refuse 2 ≡ first (when (unusedFields l) 2) (firstWrong 1 (take (l .count) (l .rows)))
-unfolding unusedFields first when
+-- check 2 of fields
+pub count-refused : (l : Log) → countWrong (l .count) ≡ true → refuse 2 ≡ when (unusedFields l) 2
+unfolding unusedFields when
 count-refused l h = rw h
 
-pub unused-refused : (l : Log) → countWrong (l .count) ≡ false → rowsZero (drop (l .count) (take rowLimit (l .rows))) ≡ false
-    → refuse 2 ≡ first (when (unusedFields l) 2) (firstWrong 1 (take (l .count) (l .rows)))
-unfolding unusedFields first when
+pub unused-refused : (l : Log) → countWrong (l .count) ≡ false → rowsZero (drop (l .count) (take rowLimit (l .rows))) ≡ false → refuse 2 ≡ when (unusedFields l) 2
+unfolding unusedFields when
 unused-refused l h g = rw (h, g)
 
-pub rows-checked : (l : Log) → countWrong (l .count) ≡ false → rowsZero (drop (l .count) (take rowLimit (l .rows))) ≡ true
-    → firstWrong 1 (take (l .count) (l .rows)) ≡ first (when (unusedFields l) 2) (firstWrong 1 (take (l .count) (l .rows)))
-unfolding unusedFields first when
-rows-checked l h g = rw (h, g)
+pub unused-passed : (l : Log) → countWrong (l .count) ≡ false → rowsZero (drop (l .count) (take rowLimit (l .rows))) ≡ true → refuse 0 ≡ when (unusedFields l) 2
+unfolding unusedFields when
+unused-passed l h g = rw (h, g)
 
 -- what packing a log replies and leaves
 pub pack-long : (l : Log) (s : List ℕ) → (length s ≡ logSize → ⊥) → (refuse 1 ≡ packLogCheck l s) × (s ≡ packedLog l s)

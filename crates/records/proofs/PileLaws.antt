@@ -1,6 +1,5 @@
 -- A pile record: its fields in a row, its checks, and its reading.
 use mathlib.Core.Path.{_≡_, refl, ap, sym, _∙_}
-use mathlib.Core.Bool.{Bool, true, false}
 use mathlib.Core.List.{List}
 use Prim.Native.Nat.{ℕ, _+_, _<_, _≤_}
 use native.Mathlib.Omega.{arith}
@@ -10,7 +9,7 @@ use lib.Seq.{paste}
 use Rattle.rules.specs.declared.Pile.{Pile}
 use Rattle.rules.specs.declared.PileRead.{PileRead}
 use Rattle.rules.specs.declared.Refusal.{Refusal}
-use Rattle.rules.specs.Base.{pick, within, refuse, first, when}
+use Rattle.rules.specs.Base.{refuse, first, when}
 use Rattle.rules.specs.Limits.{pileSize}
 use Rattle.rules.specs.Packed.{bitsAt, pileOf, pileBytes}
 use Rattle.rules.specs.Checks.{wrongPart, sectionCheck, pileChecks}
@@ -30,17 +29,13 @@ pile-fields s a p b q c r d t e u f v g a′ p′ b′ q′ c′ r′ d′ t′ 
     let v″ : v ≡ 60 = omega arith in
     cc
 
-pub part-refused : (p : Pile) (f : ℕ) → f ≡ wrongPart p → 0 < f → _≡_ {A = Refusal} (record { number = 5; row = 0; field = f }) (pileChecks p)
-unfolding pileChecks sectionCheck first
-part-refused p f e h = rw (← e, lt-ltb _ _ h)
+pub section-wrong : (p : Pile) (f : ℕ) → f ≡ wrongPart p → 0 < f → _≡_ {A = Refusal} (record { number = 5; row = 0; field = f }) (sectionCheck p)
+unfolding sectionCheck
+section-wrong p f e h = rw (← e, lt-ltb _ _ h)
 
-pub method-refused : (p : Pile) (f : ℕ) → f ≡ wrongPart p → f ≤ 0 → within 1 3 (p .method) ≡ false → refuse 6 ≡ pileChecks p
-unfolding pileChecks sectionCheck first when
-method-refused p f e h m = rw (← e, le-ltb _ _ h, m)
-
-pub pile-passed : (p : Pile) (f : ℕ) → f ≡ wrongPart p → f ≤ 0 → within 1 3 (p .method) ≡ true → refuse 0 ≡ pileChecks p
-unfolding pileChecks sectionCheck first when
-pile-passed p f e h m = rw (← e, le-ltb _ _ h, m)
+pub section-right : (p : Pile) (f : ℕ) → f ≡ wrongPart p → f ≤ 0 → refuse 0 ≡ sectionCheck p
+unfolding sectionCheck
+section-right p f e h = rw (← e, le-ltb _ _ h)
 
 -- a refused reading
 abbrev pub no : Refusal → PileRead

@@ -1,6 +1,7 @@
 // A log: its count and its 64 row places, from 321 bytes and back.
 use super::bits::Cursor;
 use super::copy::copy_in;
+use super::range::first;
 use super::range::refuse;
 use super::row::no_row;
 use super::row::row_bytes;
@@ -11,9 +12,10 @@ use rules::Log;
 use rules::LogRead;
 use rules::Refusal;
 ghost use mathlib.Core.Path.{_≡_};
-ghost use Prim.Native.Nat.{_≤_};
+ghost use Prim.Native.Nat.{_≤_, min};
 ghost use lib.ListN.{length, take, drop};
-ghost use Rattle.rules.specs.Base.{allZero, first, when};
+ghost use Rattle.rules.specs.Base as Base;
+ghost use Rattle.rules.specs.Base.{allZero, when};
 ghost use Rattle.rules.specs.Limits.{rowLimit, logSize};
 ghost use Rattle.rules.specs.Checks.{countWrong, firstWrong};
 ghost use Rattle.rules.specs.Packed.{logBytes};
@@ -127,13 +129,33 @@ fn unused_from(l: Log, from: usize) -> bool
     true
 }
 
+// Check 2 of fields that are packed.
+fn unused_refusal(l: Log) -> Refusal
+    ensures { λ r. ⌜ r ≡ when (unusedFields l) 2 ⌝ }
+{
+    if count_wrong(l.count) {
+        return refuse(2);
+    }
+    if !unused_from(l, l.count as usize) {
+        return refuse(2);
+    }
+    refuse(0)
+}
+
+// How many rows a count can mean.
+fn used(count: u8) -> usize
+    ensures { λ r. ⌜ r ≡ min count rowLimit ⌝ }
+{
+    let n = count as usize;
+    if n < ROW_LIMIT { n } else { ROW_LIMIT }
+}
+
 // Check 3 of the used rows.
 fn rows_refusal(l: Log) -> Refusal
-    requires { ⌜ l .count ≤ rowLimit ⌝ }
     ensures { λ r. ⌜ r ≡ firstWrong 1 (take (l .count) (l .rows)) ⌝ }
 {
     let mut i: usize = 0;
-    let end = l.count as usize;
+    let end = used(l.count);
     while i < end {
         let row = l.rows[i];
         let f = row_field(row);
@@ -149,17 +171,10 @@ fn rows_refusal(l: Log) -> Refusal
     refuse(0)
 }
 
-// Checks 2 and 3 of fields that are packed.
 fn log_refusal(l: Log) -> Refusal
-    ensures { λ r. ⌜ r ≡ first (when (unusedFields l) 2) (firstWrong 1 (take (l .count) (l .rows))) ⌝ }
+    ensures { λ r. ⌜ r ≡ Base.first (when (unusedFields l) 2) (firstWrong 1 (take (l .count) (l .rows))) ⌝ }
 {
-    if count_wrong(l.count) {
-        return refuse(2);
-    }
-    if !unused_from(l, l.count as usize) {
-        return refuse(2);
-    }
-    rows_refusal(l)
+    first(unused_refusal(l), rows_refusal(l))
 }
 
 fn write_log(l: Log, buf: &mut [u8])

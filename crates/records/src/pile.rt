@@ -3,6 +3,7 @@ use super::bits::Cursor;
 use super::bits::put_bits;
 use super::bits::take_bits;
 use super::copy::copy_in;
+use super::range::first;
 use super::range::in_range;
 use super::range::refuse;
 use rules::Pile;
@@ -10,7 +11,8 @@ use rules::PileRead;
 use rules::Refusal;
 ghost use mathlib.Core.Path.{_≡_};
 ghost use Rattle.rules.specs.Packed.{pileOf, pileBytes};
-ghost use Rattle.rules.specs.Checks.{aRight, bRight, wrongPart, pileChecks};
+ghost use Rattle.rules.specs.Checks.{aRight, bRight, wrongPart, sectionCheck, methodWrong, pileChecks};
+ghost use Rattle.rules.specs.Base.{when};
 ghost use Rattle.rules.specs.Reading.{readPile, noPile, packPileCheck, packedPile};
 
 const PILE_SIZE: usize = 8;
@@ -76,9 +78,9 @@ fn wrong_part(p: Pile) -> u32
     0
 }
 
-// Checks 5 and 6.
-fn pile_refusal(p: Pile) -> Refusal
-    ensures { λ r. ⌜ r ≡ pileChecks p ⌝ }
+// Check 5.
+fn section_refusal(p: Pile) -> Refusal
+    ensures { λ r. ⌜ r ≡ sectionCheck p ⌝ }
 {
     let f = wrong_part(p);
     if 0 < f {
@@ -88,10 +90,23 @@ fn pile_refusal(p: Pile) -> Refusal
             field: f,
         };
     }
+    refuse(0)
+}
+
+// Check 6.
+fn method_refusal(p: Pile) -> Refusal
+    ensures { λ r. ⌜ r ≡ when (methodWrong p) 6 ⌝ }
+{
     if !in_range(1, 3, p.method as u16) {
         return refuse(6);
     }
     refuse(0)
+}
+
+fn pile_refusal(p: Pile) -> Refusal
+    ensures { λ r. ⌜ r ≡ pileChecks p ⌝ }
+{
+    first(section_refusal(p), method_refusal(p))
 }
 
 fn no_pile(r: Refusal) -> PileRead

@@ -1,4 +1,4 @@
-// Ranges, both ends included, and refusals by their number alone.
+// Ranges, both ends included; refusals by their number alone, and the first of two.
 use rules::Refusal;
 ghost use mathlib.Core.Path.{_≡_};
 ghost use Rattle.rules.specs.Base as Base;
@@ -23,4 +23,14 @@ pub fn refuse(n: u32) -> Refusal
         row: 0,
         field: 0,
     }
+}
+
+// a, or b where a refuses nothing.
+pub fn first(a: Refusal, b: Refusal) -> Refusal
+    ensures { λ r. ⌜ r ≡ Base.first a b ⌝ }
+{
+    if 0 < a.number {
+        return a;
+    }
+    b
 }

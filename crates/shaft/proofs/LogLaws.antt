@@ -71,5 +71,5 @@ sum-fits i rs sum e = omega (arith, deep-split i rs)
 pub row-fits : (l : Log) (i : ℕ) (d : Row) (sum : ℕ) → Good l → i < l .count → sum ≡ depthOf (take i (usedRows l)) → sum + getD (l .rows) i d .thickness < 2 ^ 64
 row-fits l i d sum g h e =
     let k : sum + getD (l .rows) i d .thickness ≤ depthOf (usedRows l)
-          = sum-fits (i + 1) (usedRows l) _ (sum-more i (usedRows l) _ (getD (l .rows) i d) sum _ (row-left l i d (g .placed) h) refl e) in
+    = sum-fits (i + 1) (usedRows l) _ (sum-more i (usedRows l) _ (getD (l .rows) i d) sum _ (row-left l i d (g .placed) h) refl e) in
     omega (arith, g .deep)

@@ -53,10 +53,11 @@ second a b h e = rw e at h
 
 -- one row more
 pub open-more : (rs qs : List Row) (r : Row) (next at bottom : ℕ) (s t : Soil) → drop next rs ≡ r ∷ qs → qs ≡ drop (next + 1) rs → t ≡ soilOf r
-  → either (leb bottom at) (same s (soilOf r)) ≡ true → Open rs next at bottom s → Open rs (next + 1) at (bottom + r .thickness) t
+    → either (leb bottom at) (same s (soilOf r)) ≡ true → Open rs next at bottom s → Open rs (next + 1) at (bottom + r .thickness) t
 open-more rs qs r next at bottom s t e f k j o = record {
-    sum = sum-more next rs qs r bottom (r .thickness) e refl (o .sum);
-    held = λ m p q. ⊎-elim (above m p) (inside m q) (split m bottom) }
+  sum = sum-more next rs qs r bottom (r .thickness) e refl (o .sum);
+  held = λ m p q. ⊎-elim (above m p) (inside m q) (split m bottom);
+}
   where
     above : (m : ℕ) → at ≤ m → m < bottom → (soilAt rs m ≡ t) × (extent rs m ≡ bottom + r .thickness - m + lead t (drop (next + 1) rs))
     above m p q =
@@ -65,13 +66,14 @@ open-more rs qs r next at bottom s t e f k j o = record {
         let l : lead s (drop next rs) ≡ r .thickness + lead s qs = ap (lead s) e ∙ lead-on s r qs y in
         let v : lead s qs ≡ lead t (drop (next + 1) rs) = ap₂ lead u f in
         (o .held m p q .0 ∙ u, omega (arith, o .held m p q .1))
+
     inside : (m : ℕ) → m < bottom + r .thickness → bottom ≤ m → (soilAt rs m ≡ t) × (extent rs m ≡ bottom + r .thickness - m + lead t (drop (next + 1) rs))
     inside m q p =
         let d : depthOf (take next rs) ≤ m = omega (arith, o .sum) in
         let w : ℕ = m - depthOf (take next rs) in
         let z : w < r .thickness = omega (arith, o .sum) in
         let x : extent rs m ≡ r .thickness - w + lead (soilOf r) qs
-              = extent-left next rs m d ∙ ap (λ (y : List Row). extent y w) e ∙ extent-here r qs w z in
+        = extent-left next rs m d ∙ ap (λ (y : List Row). extent y w) e ∙ extent-here r qs w z in
         let v : lead (soilOf r) qs ≡ lead t (drop (next + 1) rs) = ap₂ lead (sym k) f in
         (soil-left next rs m d ∙ ap (λ (y : List Row). soilAt y w) e ∙ soil-here r qs w z ∙ sym k, omega (arith, o .sum))
 
@@ -82,7 +84,7 @@ pub record Whole (rs : List Row) (at bottom : ℕ) (s : Soil) : Type 0 where
   pub far : extent rs at ≡ bottom - at
 
 pub whole-before : (rs qs : List Row) (r : Row) (next at bottom : ℕ) (s : Soil) → drop next rs ≡ r ∷ qs
-  → either (leb bottom at) (same s (soilOf r)) ≡ false → Open rs next at bottom s → Whole rs at bottom s
+    → either (leb bottom at) (same s (soilOf r)) ≡ false → Open rs next at bottom s → Whole rs at bottom s
 whole-before rs qs r next at bottom s e j o =
     let h : at < bottom = leb-false bottom at (either-left (leb bottom at) _ j) in
     let l : lead s (drop next rs) ≡ 0 = ap (lead s) e ∙ lead-off s r qs (either-right (leb bottom at) _ j) in

@@ -1,4 +1,4 @@
--- The table while it is filled: seven bytes a slice, in order, and zeros behind them; and the sum.
+-- The table while it is filled: slice-long bytes a slice, in order, and zeros behind them; and the sum.
 use mathlib.Core.Path.{_≡_, refl, sym, _∙_, ap, ap₂}
 use mathlib.Core.List.{List, [], _∷_, _++_, append-assoc, append-nil}
 use Prim.Native.Nat.{ℕ, zero, suc, _+_, _*_, _-_, _<_, _≤_}
@@ -8,12 +8,13 @@ use native.Mathlib.Numerals.{add-one}
 use lib.ListN.{length, take, drop, getD, set, replicate, length-append, length-replicate, replicate-append-replicate}
 use lib.Seq.{paste, paste-zero, paste-suc, take-all, take-at, drop-at}
 use Rattle.rules.specs.declared.Slice.{Slice}
+use Rattle.rules.specs.Limits.{placeLimit, sliceSize, tableSize, sliceLimit}
 use Rattle.rules.specs.Packed.{sliceBytes, slicesBytes}
 use Rattle.rules.specs.Numbers.{total}
 
-pub seven : (s : List ℕ) (c : Slice) → s ≡ sliceBytes c → length s ≡ 7
+pub slice-long : (s : List ℕ) (c : Slice) → s ≡ sliceBytes c → length s ≡ sliceSize
 unfolding sliceBytes
-seven s c e = ap length e
+slice-long s c e = ap length e
 
 pub copy-none : (d s : List ℕ) (at : ℕ) → d ≡ paste d at s 0
 copy-none d s at = paste-zero d at s
@@ -29,7 +30,7 @@ copy-all d e s at n j h k q =
 pub share-small : (f t k : ℕ) → f ≤ 20000000 → k ≤ 8 → f * t * k ≤ 160000000 * t
 share-small f t k h l = omega (arith, mul-le-mul (mul-le-mul-right t h) l)
 
-pub share-first : (f t : ℕ) → f ≤ 20000000 → t ≤ 2000 → f * t ≤ 40000000000
+pub share-first : (f t : ℕ) → f ≤ 20000000 → t ≤ sliceLimit → f * t ≤ 40000000000
 share-first f t h l = omega (arith, mul-le-mul h l)
 
 -- one slice more
@@ -38,10 +39,10 @@ unfolding slicesBytes
 more-bytes [] c = append-nil (sliceBytes c)
 more-bytes (x ∷ cs) c = ap (λ (y : List ℕ). sliceBytes x ++ y) (more-bytes cs c) ∙ sym (append-assoc (sliceBytes x) (slicesBytes cs) (sliceBytes c))
 
-pub bytes-long : (cs : List Slice) → length (slicesBytes cs) ≡ length cs * 7
+pub bytes-long : (cs : List Slice) → length (slicesBytes cs) ≡ length cs * sliceSize
 unfolding slicesBytes
 bytes-long [] = refl
-bytes-long (c ∷ cs) = omega (arith, length-append (sliceBytes c) (slicesBytes cs), seven (sliceBytes c) c refl, bytes-long cs)
+bytes-long (c ∷ cs) = omega (arith, length-append (sliceBytes c) (slicesBytes cs), slice-long (sliceBytes c) c refl, bytes-long cs)
 
 pub total-more : (cs : List Slice) (c : Slice) → total (cs ++ (c ∷ [])) ≡ total cs + c .friction * c .thickness * c .factor
 unfolding total
@@ -50,22 +51,23 @@ total-more (x ∷ cs) c = omega (arith, total-more cs c)
 
 -- n slices of the table are filled
 abbrev pub Filled : List Slice → List ℕ → ℕ → Type 0
-Filled cs b n = (length cs ≡ n) × (b ≡ slicesBytes cs ++ replicate (581 - n * 7) 0)
+Filled cs b n = (length cs ≡ n) × (b ≡ slicesBytes cs ++ replicate (tableSize - n * sliceSize) 0)
 
-pub filled-long : (cs : List Slice) (b : List ℕ) (n : ℕ) → n ≤ 83 → Filled cs b n → length b ≡ 581
+pub filled-long : (cs : List Slice) (b : List ℕ) (n : ℕ) → n ≤ placeLimit → Filled cs b n → length b ≡ tableSize
 filled-long cs b n h f =
-    omega (arith, f .0, ap length (f .1), length-append (slicesBytes cs) (replicate (581 - n * 7) 0), bytes-long cs, length-replicate {A = ℕ} (581 - n * 7) 0)
+    omega (arith, f .0, ap length (f .1), length-append (slicesBytes cs) (replicate (tableSize - n * sliceSize) 0), bytes-long cs, length-replicate {A = ℕ} (tableSize - n * sliceSize) 0)
 
-pub filled-more : (cs : List Slice) (b e : List ℕ) (n : ℕ) (c : Slice) → n < 83 → e ≡ take (n * 7) b ++ sliceBytes c ++ drop (n * 7 + 7) b → Filled cs b n → Filled (cs ++ (c ∷ [])) e (n + 1)
+pub filled-more : (cs : List Slice) (b e : List ℕ) (n : ℕ) (c : Slice) → n < placeLimit → e ≡ take (n * sliceSize) b ++ sliceBytes c ++ drop (n * sliceSize + sliceSize) b → Filled cs b n → Filled (cs ++ (c ∷ [])) e (n + 1)
 filled-more cs b e n c h q f =
-    let k : 581 - n * 7 ≡ 7 + (581 - (n + 1) * 7) = omega arith in
+    let k : tableSize - n * sliceSize ≡ sliceSize + (tableSize - (n + 1) * sliceSize) = omega arith in
     let p : List ℕ = slicesBytes cs in
-    let z : List ℕ = replicate (581 - (n + 1) * 7) 0 in
-    let long : length p ≡ n * 7 = omega (arith, bytes-long cs, f .0) in
-    let blank : replicate (581 - n * 7) 0 ≡ replicate 7 0 ++ z = ap (λ (j : ℕ). replicate j 0) k ∙ sym (replicate-append-replicate 7 (581 - (n + 1) * 7) 0) in
-    let all : b ≡ p ++ (replicate 7 0 ++ z) = f .1 ∙ ap (λ (y : List ℕ). p ++ y) blank in
-    let front : take (n * 7) b ≡ p = ap (take (n * 7)) all ∙ take-at p (replicate 7 0 ++ z) (n * 7) long in
-    let seen : length (p ++ replicate 7 0) ≡ n * 7 + 7 = omega (arith, length-append p (replicate 7 0), length-replicate {A = ℕ} 7 0, long) in
-    let back : drop (n * 7 + 7) b ≡ z = ap (drop (n * 7 + 7)) (all ∙ sym (append-assoc p (replicate 7 0) z)) ∙ drop-at (p ++ replicate 7 0) z (n * 7 + 7) seen in
-    (omega (arith, f .0, length-append cs (c ∷ [])),
-     q ∙ ap₂ (λ (x y : List ℕ). x ++ sliceBytes c ++ y) front back ∙ ap (λ (y : List ℕ). y ++ z) (sym (more-bytes cs c)))
+    let z : List ℕ = replicate (tableSize - (n + 1) * sliceSize) 0 in
+    let long : length p ≡ n * sliceSize = omega (arith, bytes-long cs, f .0) in
+    let blank : replicate (tableSize - n * sliceSize) 0 ≡ replicate sliceSize 0 ++ z = ap (λ (j : ℕ). replicate j 0) k ∙ sym (replicate-append-replicate sliceSize (tableSize - (n + 1) * sliceSize) 0) in
+    let all : b ≡ p ++ (replicate sliceSize 0 ++ z) = f .1 ∙ ap (λ (y : List ℕ). p ++ y) blank in
+    let front : take (n * sliceSize) b ≡ p = ap (take (n * sliceSize)) all ∙ take-at p (replicate sliceSize 0 ++ z) (n * sliceSize) long in
+    let seen : length (p ++ replicate sliceSize 0) ≡ n * sliceSize + sliceSize = omega (arith, length-append p (replicate sliceSize 0), length-replicate {A = ℕ} sliceSize 0, long) in
+    let back : drop (n * sliceSize + sliceSize) b ≡ z = ap (drop (n * sliceSize + sliceSize)) (all ∙ sym (append-assoc p (replicate sliceSize 0) z)) ∙ drop-at (p ++ replicate sliceSize 0) z (n * sliceSize + sliceSize) seen in (
+      omega (arith, f .0, length-append cs (c ∷ [])),
+      q ∙ ap₂ (λ (x y : List ℕ). x ++ sliceBytes c ++ y) front back ∙ ap (λ (y : List ℕ). y ++ z) (sym (more-bytes cs c)),
+    )

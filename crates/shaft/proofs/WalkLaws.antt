@@ -38,22 +38,23 @@ unfolding depthOf
 passed-none l m = record { above = omega arith; sum = refl; top = refl }
 
 module _ (l : Log) (m i : ℕ) (r : Row) (qs : List Row) (s t : Soil) (q u b w : ℕ) (left : drop i (usedRows l) ≡ r ∷ qs)
-  (e : t ≡ soilOf r) (k : w ≡ r .thickness) (v : u ≡ pick (same s t) q b) (p : Passed l m i s q b) where
+    (e : t ≡ soilOf r) (k : w ≡ r .thickness) (v : u ≡ pick (same s t) q b) (p : Passed l m i s q b) where
   run : u ≡ pick (same s (soilOf r)) q b
   run = v ∙ ap (λ (x : Soil). pick (same s x) q b) e
 
   pub passed-more : qs ≡ drop (i + 1) (usedRows l) → b + w ≤ m → Passed l m (i + 1) t u (b + w)
   passed-more f o = record {
-      above = o;
-      sum = sum-more i (usedRows l) qs r b w left k (p .sum);
-      top = p .top ∙ ap (λ (x : List Row). topFrom x s q b m) left ∙ top-below r qs s q b m (omega arith) ∙ rw (e, run, k, f) }
+    above = o;
+    sum = sum-more i (usedRows l) qs r b w left k (p .sum);
+    top = p .top ∙ ap (λ (x : List Row). topFrom x s q b m) left ∙ top-below r qs s q b m (omega arith) ∙ rw (e, run, k, f);
+  }
 
   pub passed-here : m < b + w → Positive (usedRows l) → m < depthOf (usedRows l) → record { soil = t; top = u } ≡ stratumAt (usedRows l) m
   passed-here o z n =
       let x : m - depthOf (take i (usedRows l)) < r .thickness = omega (arith, p .sum, p .above) in
       let a : soilAt (usedRows l) m ≡ t
-            = soil-left i (usedRows l) m (omega (arith, p .sum, p .above)) ∙ ap (λ (y : List Row). soilAt y (m - depthOf (take i (usedRows l)))) left
-              ∙ soil-here r qs (m - depthOf (take i (usedRows l))) x ∙ sym e in
+      = soil-left i (usedRows l) m (omega (arith, p .sum, p .above)) ∙ ap (λ (y : List Row). soilAt y (m - depthOf (take i (usedRows l)))) left
+      ∙ soil-here r qs (m - depthOf (take i (usedRows l))) x ∙ sym e in
       let y : topAt (usedRows l) m ≡ u = p .top ∙ ap (λ (x : List Row). topFrom x s q b m) left ∙ top-here r qs s q b m (omega arith) ∙ sym run in
       λ j. record { soil = sym a j; top = (sym y ∙ top-is (usedRows l) m z n) j }
 

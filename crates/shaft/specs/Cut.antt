@@ -8,7 +8,7 @@ use Rattle.rules.specs.declared.Soil.{Soil}
 use Rattle.rules.specs.declared.Pile.{Pile}
 use Rattle.rules.specs.declared.Slice.{Slice}
 use Rattle.rules.specs.Base.{pick}
-use Rattle.rules.specs.Limits.{tableSize, placeLimit}
+use Rattle.rules.specs.Limits.{placeLimit, tableSize, sliceLimit}
 use Rattle.rules.specs.Packed.{tableBytes}
 use Rattle.rules.specs.Ground.{soilAt}
 use Rattle.rules.specs.Pieces.{Piece, runTop, pieces}
@@ -35,7 +35,7 @@ shaftOf cs = pick (tooMany (length cs)) noShaft (record { bytes = tableBytes cs;
 
 -- a slice whose numbers fit their bits in a table
 pub record Fields (c : Slice) : Type 0 where
-  pub thickness : c .thickness ≤ 2000
+  pub thickness : c .thickness ≤ sliceLimit
   pub friction : c .friction ≤ 20000000
   pub factor : c .factor ≤ 8
 

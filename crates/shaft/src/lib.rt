@@ -18,6 +18,17 @@ use rules::Row;
 use rules::Slice;
 use rules::Soil;
 
+// A slice table: 83 places of seven bytes.
+pub const PLACES: usize = 83;
+
+pub const SLICE_SIZE: usize = 7;
+
+pub const TABLE_SIZE: usize = PLACES * SLICE_SIZE;
+
+const OVER: usize = PLACES + 1;
+
+const SLICE_LIMIT: u64 = 2000;
+
 // The soil at a millimetre, and the top of its stratum.
 pub struct Stratum {
     pub soil: Soil,
@@ -26,15 +37,10 @@ pub struct Stratum {
 
 // The shaft's slices as a table holds them, how many they are, and the sum of friction × thickness × factor.
 pub struct Shaft {
-    pub bytes: [u8; 581],
+    pub bytes: [u8; TABLE_SIZE],
     pub used: usize,
     pub total: u64,
 }
-
-const SLICE_SIZE: usize = 7;
-const PLACES: usize = 83;
-const OVER: usize = PLACES + 1;
-const SLICE_LIMIT: u64 = 2000;
 
 fn soil_of(r: Row) -> Soil
     ensures { λ s. ⌜ s ≡ soilOf r ⌝ }
@@ -90,7 +96,11 @@ pub fn stratum_at(log: Log, m: u64) -> Stratum
     ensures { λ r. ⌜ r ≡ stratumAt (usedRows log) m ⌝ }
 {
     let n = log.count as usize;
-    let mut soil = Soil { kind: 0, index: 0, saturation: 0 };
+    let mut soil = Soil {
+        kind: 0,
+        index: 0,
+        saturation: 0,
+    };
     let mut top: u64 = 0;
     let mut bottom: u64 = 0;
     let mut i: usize = 0;
@@ -134,6 +144,7 @@ fn next_slice(pile: Pile, soil: Soil, at: u64, bottom: u64) -> Slice
 {
     let tip = pile.tip as u64;
     let thickness = smaller(smaller(SLICE_LIMIT, tip - at), bottom - at);
+    // Friction is read at the mid-depth, in half millimetres.
     let friction = tables::friction(soil, at + at + thickness);
     let factor = tables::factor(pile.method, soil.kind);
     Slice {
@@ -153,7 +164,7 @@ fn weigh(c: Slice) -> u64
 }
 
 // A slice into its place of the table.
-fn put_slice(bytes: &mut [u8; 581], place: usize, c: Slice)
+fn put_slice(bytes: &mut [u8; TABLE_SIZE], place: usize, c: Slice)
     requires { ⌜ (place < placeLimit) × (length (now bytes) ≡ tableSize) × Fields c ⌝ }
     ensures { λ _. ⌜ now (bytes .exit) ≡ take (place * sliceSize) (now (bytes .entry)) ++ sliceBytes c ++ drop (place * sliceSize + sliceSize) (now (bytes .entry)) ⌝ }
 {
@@ -171,7 +182,7 @@ fn too_many() -> Shaft
     ensures { λ r. ⌜ r ≡ noShaft ⌝ }
 {
     Shaft {
-        bytes: [0; 581],
+        bytes: [0; TABLE_SIZE],
         used: OVER,
         total: 0,
     }
@@ -184,10 +195,14 @@ pub fn cut_shaft(log: Log, pile: Pile) -> Shaft
 {
     let n = log.count as usize;
     let tip = pile.tip as u64;
-    let mut bytes = [0u8; 581];
+    let mut bytes = [0u8; TABLE_SIZE];
     let mut used: usize = 0;
     let mut total: u64 = 0;
-    let mut soil = Soil { kind: 0, index: 0, saturation: 0 };
+    let mut soil = Soil {
+        kind: 0,
+        index: 0,
+        saturation: 0,
+    };
     let mut bottom: u64 = 0;
     let mut next: usize = 0;
     let mut at = pile.head as u64;

@@ -4,6 +4,7 @@ use mathlib.Core.List.{_++_}
 use Prim.Native.Nat.{_≤_, _-_}
 use native.Mathlib.Omega.{arith}
 use lib.ListN.{length, take, drop, length-set}
+use Rattle.rules.specs.Limits.{tableSize}
 use Rattle.calculation.proofs.TableLaws.{copied-more, copied-all}
 use borrow.Author.Needs.{needs}
 use Rattle.calculation.proofs.put_table.Statement.{statement}
@@ -13,7 +14,7 @@ abbrev Inv-loop : tie.InvT-loop
 Inv-loop table₀ bytes i₀ table i = (length table ≡ length table₀) × (table ≡ take i bytes ++ drop i table₀)
 
 abbrev μ-loop : tie.MeasureT-loop
-μ-loop table₀ bytes i₀ table i = 581 - i
+μ-loop table₀ bytes i₀ table i = tableSize - i
 
 loop-holds : tie.Need-loop-holds Inv-loop μ-loop
 loop-holds c = (refl, refl)
@@ -43,7 +44,7 @@ returns : tie.Need-returns Inv-loop μ-loop
 returns c =
     let l = c .before .loop in
     let a = c .before .before in
-    copied-all (a .args .table .now) (l .table) (a .args .bytes .now) 581 (l .i) (a .pre .0) (a .pre .1) (c .loop-test .left) (l .inv .1)
+    copied-all (a .args .table .now) (l .table) (a .args .bytes .now) tableSize (l .i) (a .pre .0) (a .pre .1) (c .loop-test .left) (l .inv .1)
 
 pub put-table-spec : {M : Type 1} → statement M
 put-table-spec =

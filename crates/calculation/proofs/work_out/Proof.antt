@@ -36,9 +36,10 @@ returns-2 c =
     ∙ no-depth (usedRows (c .before .before .before .before .before .before .before .before .before .before .before .args .log)) (now (c .before .before .before .before .before .before .before .before .before .before .before .args .pile)) _ (c .before .before .before .before .before .before .before .before .before .read-pile .ensures) (c .before .before .before .before .before .before .before .before .before .before .before .pre .1) (c .before .before .before .before .before .before .if1 .left) _ (c .before .before .before .before .depth-of .ensures) _ (c .before .before .before .depth-refusal .ensures) (c .before .before .if2 .taken)
 
 work-pile-requires : tie.Need-work-pile-requires
-work-pile-requires c κs =
-    (c .before .before .before .before .before .before .before .before .before .pre .0,
-     past-depth (usedRows (c .before .before .before .before .before .before .before .before .before .args .log)) (now (c .before .before .before .before .before .before .before .before .before .args .pile)) _ (c .before .before .before .before .before .before .before .read-pile .ensures) (c .before .before .before .before .before .before .before .before .before .pre .1) (c .before .before .before .before .if1 .left) _ (c .before .before .depth-of .ensures) _ (c .before .depth-refusal .ensures) (c .if2 .left))
+work-pile-requires c κs = (
+  c .before .before .before .before .before .before .before .before .before .pre .0,
+  past-depth (usedRows (c .before .before .before .before .before .before .before .before .before .args .log)) (now (c .before .before .before .before .before .before .before .before .before .args .pile)) _ (c .before .before .before .before .before .before .before .read-pile .ensures) (c .before .before .before .before .before .before .before .before .before .pre .1) (c .before .before .before .before .if1 .left) _ (c .before .before .depth-of .ensures) _ (c .before .depth-refusal .ensures) (c .if2 .left),
+)
 
 returns-3 : tie.Need-returns-3
 returns-3 c =

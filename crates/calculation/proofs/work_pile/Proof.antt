@@ -53,7 +53,7 @@ returns-2 : tie.Need-returns-2
 returns-2 c =
     c .no-work2 .ensures ∙ ap noWork (c .before .refuse2 .ensures)
     ∙ no-place (usedRows (c .before .before .before .before .before .before .before .before .before .before .args .log)) (c .before .before .before .before .before .before .before .before .before .before .args .pile) (c .before .before .before .before .before .before .before .before .before .before .pre .1) _ (c .before .before .before .before .before .before .before .before .stratum-at .ensures) _ (c .before .before .before .before .before .tip-refusal .ensures) (c .before .before .before .before .if1 .left)
-      _ (c .before .before .before .cut-shaft .ensures .0) (c .before .before .if2 .taken)
+    _ (c .before .before .before .cut-shaft .ensures .0) (c .before .before .if2 .taken)
 
 pascals-requires : tie.Need-pascals-requires
 pascals-requires c κs = search needs
@@ -66,7 +66,7 @@ five-numbers-requires c κs =
 returns-3 : tie.Need-returns-3
 returns-3 c =
     done (usedRows (c .before .before .before .before .before .before .before .before .before .before .before .before .args .log)) (c .before .before .before .before .before .before .before .before .before .before .before .before .args .pile) (c .before .before .before .before .before .before .before .before .before .before .before .before .pre .1) _ (c .before .before .before .before .before .before .before .before .before .before .stratum-at .ensures) _ (c .before .before .before .before .before .before .before .tip-refusal .ensures) (c .before .before .before .before .before .before .if1 .left)
-      _ (c .before .before .before .before .before .cut-shaft .ensures .0) (c .before .before .before .before .if2 .left) _ _ _ (c .before .before .before .before .before .before .before .before .tip-resistance .ensures .0) (c .before .before .pascals .ensures) (c .five-numbers .ensures)
+    _ (c .before .before .before .before .before .cut-shaft .ensures .0) (c .before .before .before .before .if2 .left) _ _ _ (c .before .before .before .before .before .before .before .before .tip-resistance .ensures .0) (c .before .before .pascals .ensures) (c .five-numbers .ensures)
 
 pub work-pile-spec : {M : Type 1} → statement M
 work-pile-spec =

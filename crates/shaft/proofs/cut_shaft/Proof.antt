@@ -60,11 +60,12 @@ loop-less c = search needs
 loop-again : tie.Need-loop-again Inv-loop μ-loop
 loop-again c =
     let l = c .before .before .before .before .before .before .before .loop in
-    let a = c .before .before .before .before .before .before .before .before .before .before in
-    (omega (arith, c .before .before .before .before .before .if1 .taken),
-     open-more _ _ _ (l .next) _ _ _ _ (row-left (a .args .t1) (l .next) _ (a .pre .0 .placed) (c .before .before .before .before .before .if1 .taken)) refl (c .before .soil-of .ensures)
-       (sym (c .before .before .before .joins .ensures) ∙ c .before .before .if2 .taken) (l .inv .1),
-     l .inv .2)
+    let a = c .before .before .before .before .before .before .before .before .before .before in (
+      omega (arith, c .before .before .before .before .before .if1 .taken),
+      open-more _ _ _ (l .next) _ _ _ _ (row-left (a .args .t1) (l .next) _ (a .pre .0 .placed) (c .before .before .before .before .before .if1 .taken)) refl (c .before .soil-of .ensures)
+          (sym (c .before .before .before .joins .ensures) ∙ c .before .before .if2 .taken) (l .inv .1),
+      l .inv .2,
+    )
 
 -- the open stratum is whole where its next slice is cut
 whole : (c : tie.Joined1 Inv-loop μ-loop) → Whole (usedRows (c .before .before .before .before .before .args .t1)) (c .before .before .loop .at) (c .before .before .loop .bottom) (c .before .before .loop .soil)
@@ -82,10 +83,11 @@ too-many-requires c κs = search needs
 returns : tie.Need-returns Inv-loop μ-loop
 returns c =
     let l = c .before .before .before .before .loop in
-    let a = c .before .before .before .before .before .before .before in
-    (c .too-many .ensures
-    ∙ doing-over (usedRows (a .args .t1)) (a .args .pile) (l .used) (l .at) (l .bottom) (l .soil) (l .bytes) (l .total) _ (a .pre .0 .full) (a .pre .3) (c .before .before .before .loop-test .taken) (whole (c .before .before)) (l .inv .2) refl (c .before .if3 .taken),
-     over-small (c .too-many .result) (c .too-many .ensures))
+    let a = c .before .before .before .before .before .before .before in (
+      c .too-many .ensures
+          ∙ doing-over (usedRows (a .args .t1)) (a .args .pile) (l .used) (l .at) (l .bottom) (l .soil) (l .bytes) (l .total) _ (a .pre .0 .full) (a .pre .3) (c .before .before .before .loop-test .taken) (whole (c .before .before)) (l .inv .2) refl (c .before .if3 .taken),
+      over-small (c .too-many .result) (c .too-many .ensures),
+    )
 
 next-slice-requires : tie.Need-next-slice-requires Inv-loop μ-loop
 next-slice-requires c κs = (c .before .before .loop-test .taken, whole (c .before) .here)
@@ -124,10 +126,12 @@ loop-less-2 c =
 loop-again-2 : tie.Need-loop-again-2 Inv-loop μ-loop
 loop-again-2 c =
     let l = c .before .before .before .before .before .before .before .before .loop in
-    let a = c .before .before .before .before .before .before .before .before .before .before .before in
-    (l .inv .0, open-on _ _ (l .at) _ _ _ (omega arith) (l .inv .1),
-     doing-more (usedRows (a .args .t1)) (a .args .pile) (l .used) (l .at) (l .bottom) (l .soil) (l .bytes) (l .total) _ (a .pre .0 .full) (a .pre .3) (c .before .before .before .before .before .before .before .loop-test .taken) (whole (c .before .before .before .before .before .before)) (l .inv .2)
-       (c .before .before .before .before .next-slice .ensures .is) _ _ (omega (arith, l .inv .2 .few, c .before .before .before .before .before .if3 .left)) (c .before .before .put-slice .ensures) (c .before .weigh .ensures))
+    let a = c .before .before .before .before .before .before .before .before .before .before .before in (
+      l .inv .0,
+      open-on _ _ (l .at) _ _ _ (omega arith) (l .inv .1),
+      doing-more (usedRows (a .args .t1)) (a .args .pile) (l .used) (l .at) (l .bottom) (l .soil) (l .bytes) (l .total) _ (a .pre .0 .full) (a .pre .3) (c .before .before .before .before .before .before .before .loop-test .taken) (whole (c .before .before .before .before .before .before)) (l .inv .2)
+          (c .before .before .before .before .next-slice .ensures .is) _ _ (omega (arith, l .inv .2 .few, c .before .before .before .before .before .if3 .left)) (c .before .before .put-slice .ensures) (c .before .weigh .ensures),
+    )
 
 returns-2 : tie.Need-returns-2 Inv-loop μ-loop
 returns-2 c =

@@ -43,7 +43,7 @@ cast-t14 c = search needs
 returns : tie.Need-returns
 returns c =
     read-is _ _ _ _ _ _ _ _ (c .before .before .before .smaller .ensures) (c .before .before .smaller2 .ensures) (c .before .friction .ensures .0) (c .before .friction .ensures .1)
-      (c .factor .ensures .0) (c .factor .ensures .2)
+    (c .factor .ensures .0) (c .factor .ensures .2)
 
 pub next-slice-spec : {M : Type 1} → statement M
 next-slice-spec =

@@ -6,16 +6,17 @@ use Prim.Native.Nat.{ℕ, _≤_, _-_, _+_, _*_}
 use native.Mathlib.Omega.{arith}
 use lib.ListN.{take, drop}
 use lib.Seq.{paste}
+use Rattle.rules.specs.Limits.{sliceSize}
 use Rattle.rules.specs.Packed.{sliceBytes}
-use Rattle.shaft.proofs.TableLaws.{seven, copy-none, copy-more, copy-all}
+use Rattle.shaft.proofs.TableLaws.{slice-long, copy-none, copy-more, copy-all}
 use Rattle.shaft.proofs.put_slice.Statement.{statement}
 use Rattle.shaft.proofs.put_slice.Tie as tie
 
 abbrev Inv-loop : tie.InvT-loop
-Inv-loop bytes₀ place packed at j₀ bytes j = (j ≤ 7) × (bytes ≡ paste bytes₀ at packed j)
+Inv-loop bytes₀ place packed at j₀ bytes j = (j ≤ sliceSize) × (bytes ≡ paste bytes₀ at packed j)
 
 abbrev μ-loop : tie.MeasureT-loop
-μ-loop bytes₀ place packed at j₀ bytes j = 7 - j
+μ-loop bytes₀ place packed at j₀ bytes j = sliceSize - j
 
 slice-bytes-requires : tie.Need-slice-bytes-requires Inv-loop μ-loop
 slice-bytes-requires c κs = search needs
@@ -24,7 +25,7 @@ mul-at : tie.Need-mul-at Inv-loop μ-loop
 mul-at c = search needs
 
 loop-holds : tie.Need-loop-holds Inv-loop μ-loop
-loop-holds c = (omega arith, copy-none _ (c .slice-bytes .result) (c .before .args .place * 7))
+loop-holds c = (omega arith, copy-none _ (c .slice-bytes .result) (c .before .args .place * sliceSize))
 
 array-read-bytes : tie.Need-array-read-bytes Inv-loop μ-loop
 array-read-bytes c = search needs
@@ -46,15 +47,15 @@ loop-again c =
     let a = c .before .before .before in
     let b = c .before .before .slice-bytes in
     let l = c .before .loop in
-    (omega arith, copy-more (a .args .bytes .now) _ (b .result) (a .args .place * 7) (l .j) (omega (arith, a .pre .0, a .pre .1)) (omega (arith, seven _ _ (b .ensures))) (l .inv .1))
+    (omega arith, copy-more (a .args .bytes .now) _ (b .result) (a .args .place * sliceSize) (l .j) (omega (arith, a .pre .0, a .pre .1)) (omega (arith, slice-long _ _ (b .ensures))) (l .inv .1))
 
 returns : tie.Need-returns Inv-loop μ-loop
 returns c =
     let a = c .before .before .before in
     let b = c .before .before .slice-bytes in
     let l = c .before .loop in
-    copy-all (a .args .bytes .now) _ (b .result) (a .args .place * 7) 7 (l .j) (seven _ _ (b .ensures)) (omega arith) (l .inv .1)
-    ∙ ap (λ (x : List ℕ). take (a .args .place * 7) (a .args .bytes .now) ++ x ++ drop (a .args .place * 7 + 7) (a .args .bytes .now)) (b .ensures)
+    copy-all (a .args .bytes .now) _ (b .result) (a .args .place * sliceSize) sliceSize (l .j) (slice-long _ _ (b .ensures)) (omega arith) (l .inv .1)
+    ∙ ap (λ (x : List ℕ). take (a .args .place * sliceSize) (a .args .bytes .now) ++ x ++ drop (a .args .place * sliceSize + sliceSize) (a .args .bytes .now)) (b .ensures)
 
 pub put-slice-spec : {M : Type 1} → statement M
 put-slice-spec =

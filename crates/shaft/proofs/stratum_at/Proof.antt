@@ -46,7 +46,7 @@ returns c =
     let a = c .before .before .before .before .before .before .before in
     let l = c .before .before .before .before .before .before .loop in
     passed-here (a .args .t1) _ (l .i) _ _ _ _ _ _ _ _ (row-left (a .args .t1) (l .i) _ (a .pre .0 .placed) (omega arith)) (c .before .before .before .soil-of .ensures) refl
-      (c .before .before .run-top .ensures) (l .inv) (c .if1 .taken) (a .pre .0 .full) (a .pre .1)
+    (c .before .before .run-top .ensures) (l .inv) (c .if1 .taken) (a .pre .0 .full) (a .pre .1)
 
 add-i : tie.Need-add-i Inv-loop μ-loop
 add-i c = search needs
@@ -59,7 +59,7 @@ loop-again c =
     let a = c .before .before .before .before .before .before .before in
     let l = c .before .before .before .before .before .before .loop in
     passed-more (a .args .t1) _ (l .i) _ _ _ _ _ _ _ _ (row-left (a .args .t1) (l .i) _ (a .pre .0 .placed) (omega arith)) (c .before .before .before .soil-of .ensures) refl
-      (c .before .before .run-top .ensures) (l .inv) refl (c .if1 .left)
+    (c .before .before .run-top .ensures) (l .inv) refl (c .if1 .left)
 
 returns-2 : tie.Need-returns-2 Inv-loop μ-loop
 returns-2 c = absurd (passed-all (c .before .before .args .t1) _ (c .before .loop .i) _ _ _ (omega arith) (c .before .before .pre .1) (c .before .loop .inv))

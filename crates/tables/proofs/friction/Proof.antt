@@ -6,6 +6,9 @@ use borrow.Author.Needs.{needs}
 use Rattle.tables.proofs.friction.Statement.{statement}
 use Rattle.tables.proofs.friction.Tie as tie
 
+returns : tie.Need-returns
+returns c = (friction-read _ _ _ _ _ (c .before .before .columns .ensures) (c .before .place .ensures .0) (c .friction-at .ensures .0), c .friction-at .ensures .1)
+
 slice-aggregate-place : tie.Need-slice-aggregate-place
 slice-aggregate-place c = search needs
 
@@ -17,9 +20,6 @@ place-requires c κs = (friction-deepens, omega arith)
 
 friction-at-requires : tie.Need-friction-at-requires
 friction-at-requires c κs = search needs
-
-returns : tie.Need-returns
-returns c = (friction-read _ _ _ _ _ (c .before .before .columns .ensures) (c .before .place .ensures .0) (c .friction-at .ensures .0), c .friction-at .ensures .1)
 
 pub friction-spec : {M : Type 1} → statement M
 friction-spec =

@@ -4,14 +4,14 @@ use borrow.Author.Needs.{needs}
 use Rattle.tables.proofs.whole_pascals.Statement.{statement}
 use Rattle.tables.proofs.whole_pascals.Tie as tie
 
+returns : tie.Need-returns
+returns c = refl
+
 mul-result : tie.Need-mul-result
 mul-result c = search needs
 
 div-result : tie.Need-div-result
 div-result c = search needs
-
-returns : tie.Need-returns
-returns c = refl
 
 pub whole-pascals-spec : {M : Type 1} → statement M
 whole-pascals-spec = tie.close (tie.spec mul-result div-result returns)

@@ -1,51 +1,22 @@
 -- `records::log::log_refusal` meets its contract.
-use mathlib.Core.Path.{sym, _∙_}
-use borrow.Author.Tests.{not-true, not-false}
-use Rattle.records.proofs.RowsLaws.{count-right}
-use Rattle.records.proofs.PackLaws.{count-refused, unused-refused, rows-checked}
+use mathlib.Core.Path.{ap₂, _∙_}
+use Rattle.rules.specs.Base.{first}
 use borrow.Author.Needs.{needs}
 use Rattle.records.proofs.log.log_refusal.Statement.{statement}
 use Rattle.records.proofs.log.log_refusal.Tie as tie
 
-count-wrong-requires : tie.Need-count-wrong-requires
-count-wrong-requires c κs = search needs
-
-refuse-requires : tie.Need-refuse-requires
-refuse-requires c κs = search needs
-
-returns : tie.Need-returns
-returns c = c .refuse .ensures ∙ count-refused _ (sym (c .before .before .count-wrong .ensures) ∙ c .before .if1 .taken)
-
-cast-unused-from : tie.Need-cast-unused-from
-cast-unused-from c = search needs
-
-unused-from-requires : tie.Need-unused-from-requires
-unused-from-requires c κs = search needs
-
-refuse-requires-2 : tie.Need-refuse-requires-2
-refuse-requires-2 c κs = search needs
-
-returns-2 : tie.Need-returns-2
-returns-2 c =
-    c .refuse2 .ensures ∙ unused-refused _ (sym (c .before .before .before .before .before .count-wrong .ensures) ∙ c .before .before .before .before .if1 .left) (sym (c .before .before .unused-from .ensures) ∙ not-true _ (c .before .if2 .taken))
+unused-refusal-requires : tie.Need-unused-refusal-requires
+unused-refusal-requires c κs = search needs
 
 rows-refusal-requires : tie.Need-rows-refusal-requires
-rows-refusal-requires c κs = count-right _ (sym (c .before .before .before .before .count-wrong .ensures) ∙ c .before .before .before .if1 .left)
+rows-refusal-requires c κs = search needs
 
-returns-3 : tie.Need-returns-3
-returns-3 c =
-    c .rows-refusal .ensures ∙ rows-checked _ (sym (c .before .before .before .before .before .count-wrong .ensures) ∙ c .before .before .before .before .if1 .left) (sym (c .before .before .unused-from .ensures) ∙ not-false _ (c .before .if2 .left))
+first-requires : tie.Need-first-requires
+first-requires c κs = search needs
+
+returns : tie.Need-returns
+returns c = c .first .ensures ∙ ap₂ first (c .before .before .unused-refusal .ensures) (c .before .rows-refusal .ensures)
 
 pub log-refusal-spec : {M : Type 1} → statement M
 log-refusal-spec =
-    tie.close
-    (tie.spec
-    count-wrong-requires
-    refuse-requires
-    returns
-    cast-unused-from
-    unused-from-requires
-    refuse-requires-2
-    returns-2
-    rows-refusal-requires
-    returns-3)
+    tie.close (tie.spec unused-refusal-requires rows-refusal-requires first-requires returns)

@@ -1,26 +1,30 @@
 -- `records::log::rows_refusal` meets its contract.
-use mathlib.Core.Path.{_≡_, refl, _∙_}
-use Prim.Native.Nat.{_+_, _-_, _<_, _≤_}
+use mathlib.Core.Path.{_≡_, ap, _∙_}
+use Prim.Native.Nat.{ℕ, _+_, _-_, _≤_}
 use native.Mathlib.Omega.{arith}
 use lib.ListN.{length, take, drop}
 use Rattle.rules.specs.Limits.{rowLimit}
 use Rattle.rules.specs.Checks.{firstWrong}
-use Rattle.records.proofs.PackLaws.{places, checked-wrong, checked-more, checked-end}
+use Rattle.records.proofs.PackLaws.{places, used-rows, checked-wrong, checked-more, checked-end}
 use borrow.Author.Needs.{needs}
 use Rattle.records.proofs.log.rows_refusal.Statement.{statement}
 use Rattle.records.proofs.log.rows_refusal.Tie as tie
 
 abbrev Inv-loop : tie.InvT-loop
-Inv-loop l i₀ end i = (length (l .rows) ≡ rowLimit) × (end ≡ l .count) × (i ≤ l .count) × (firstWrong (i + 1) (drop i (take (l .count) (l .rows))) ≡ firstWrong 1 (take (l .count) (l .rows)))
+Inv-loop l i₀ end i = (length (l .rows) ≡ rowLimit) × (end ≤ rowLimit) × (i ≤ end) × (firstWrong (i + 1) (drop i (take end (l .rows))) ≡ firstWrong 1 (take (l .count) (l .rows)))
 
 abbrev μ-loop : tie.MeasureT-loop
-μ-loop l i₀ end i = l .count - i
+μ-loop l i₀ end i = end - i
 
-cast-end : tie.Need-cast-end Inv-loop μ-loop
-cast-end c = search needs
+used-requires : tie.Need-used-requires Inv-loop μ-loop
+used-requires c κs = search needs
 
 loop-holds : tie.Need-loop-holds Inv-loop μ-loop
-loop-holds c = (places (c .args .t1 .rows) _ (c .good .0 .1 .1 .1 .0 .1 .0 .1), refl, omega arith, refl)
+loop-holds c =
+    let l = c .before .args .t1 in
+    let room = places (l .rows) _ (c .before .good .0 .1 .1 .1 .0 .1 .0 .1) in
+    let e = ap (λ (n : ℕ). firstWrong 1 (take n (l .rows))) (c .used .ensures) in
+    (room, omega arith, omega arith, e ∙ used-rows (l .count) (l .rows) room)
 
 mul-row : tie.Need-mul-row Inv-loop μ-loop
 mul-row c = search needs
@@ -39,8 +43,8 @@ add-t14 c = search needs
 
 returns : tie.Need-returns Inv-loop μ-loop
 returns c =
-    let l = c .before .before .before .before .before .args .t1 in
-    checked-wrong (l .count) (c .before .before .before .before .loop .i) _ (l .rows) _ (c .before .before .before .loop-test .taken) (omega arith) (c .before .row-field .ensures) (c .if1 .taken) (c .before .before .before .before .loop .inv .3)
+    let l = c .before .before .before .before .before .before .args .t1 in
+    checked-wrong (c .before .before .before .before .before .used .result) (c .before .before .before .before .loop .i) _ (l .rows) _ (c .before .before .before .loop-test .taken) (omega arith) (c .before .row-field .ensures) (c .if1 .taken) (c .before .before .before .before .loop .inv .3)
 
 add-i : tie.Need-add-i Inv-loop μ-loop
 add-i c = search needs
@@ -50,14 +54,19 @@ loop-less c = search needs
 
 loop-again : tie.Need-loop-again Inv-loop μ-loop
 loop-again c =
-    let l = c .before .before .before .before .before .args .t1 in
-    (c .before .before .before .before .loop .inv .0, refl, omega arith, checked-more (l .count) (c .before .before .before .before .loop .i) _ (l .rows) _ (c .before .before .before .loop-test .taken) (omega arith) (c .before .row-field .ensures) (c .if1 .left) (c .before .before .before .before .loop .inv .3))
+    let l = c .before .before .before .before .before .before .args .t1 in (
+      c .before .before .before .before .loop .inv .0,
+      c .before .before .before .before .loop .inv .1,
+      omega arith,
+      checked-more (c .before .before .before .before .before .used .result) (c .before .before .before .before .loop .i) _ (l .rows) _ (c .before .before .before .loop-test .taken) (omega arith) (c .before .row-field .ensures) (c .if1 .left) (c .before .before .before .before .loop .inv .3),
+    )
 
 refuse-requires : tie.Need-refuse-requires Inv-loop μ-loop
 refuse-requires c κs = search needs
 
 returns-2 : tie.Need-returns-2 Inv-loop μ-loop
-returns-2 c = c .refuse .ensures ∙ checked-end (c .before .before .before .args .t1 .count) (c .before .before .loop .i) (c .before .before .before .args .t1 .rows) _ (c .before .loop-test .left) (c .before .before .loop .inv .3)
+returns-2 c =
+    c .refuse .ensures ∙ checked-end (c .before .before .before .used .result) (c .before .before .loop .i) (c .before .before .before .before .args .t1 .rows) _ (c .before .loop-test .left) (c .before .before .loop .inv .3)
 
 pub rows-refusal-spec : {M : Type 1} → statement M
 rows-refusal-spec =
@@ -65,7 +74,7 @@ rows-refusal-spec =
     (tie.spec
     Inv-loop
     μ-loop
-    cast-end
+    used-requires
     loop-holds
     mul-row
     element-copy-out-row
