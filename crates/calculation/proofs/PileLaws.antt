@@ -1,17 +1,16 @@
 -- The pile by itself: sides of bounded length where checks 5 and 6 pass, and the seat.
-use mathlib.Core.Path.{_≡_, refl, sym, _∙_, ap}
+use mathlib.Core.Path.{_≡_, refl, sym, _∙_}
 use mathlib.Core.Bool.{Bool, true, false, true≢false}
 use mathlib.Core.Logic.{_⊎_, inl, inr, ⊎-elim}
-use Prim.Native.Nat.{ℕ, zero, suc, _-_, _<_, _≤_, max}
+use Prim.Native.Nat.{ℕ, suc, _-_, _<_, _≤_, max}
 use native.Mathlib.Omega.{arith}
 use lib.Dec.{ltb, eqb}
 use borrow.Author.Tests.{ltb-false, eq-eqb, eqb-true, lt-ltb, le-ltb}
 use Rattle.rules.specs.declared.Refusal.{Refusal}
 use Rattle.rules.specs.declared.Pile.{Pile}
-use Rattle.rules.specs.Base.{pick, either, neg, within, nothing, refuses, when, first}
+use Rattle.rules.specs.Base.{pick, neg, within, nothing, refuses, when}
 use Rattle.rules.specs.Checks.{aRight, bRight, methodWrong, wrongPart, sectionCheck, pileChecks}
 use Rattle.rules.specs.Answers.{seatShort}
-use Rattle.rules.proofs.Basics.{sure}
 use Rattle.rules.proofs.RefusalLaws.{first-off, either-left, either-right}
 use Rattle.calculation.specs.Work.{Sides}
 

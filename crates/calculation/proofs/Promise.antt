@@ -1,11 +1,11 @@
 -- The promise about rows: two logs that put the same soil at every millimetre get the same reply and the same table, however they were typed.
-use mathlib.Core.Path.{_≡_, refl, sym, _∙_, ap}
-use mathlib.Core.Bool.{Bool, true, false}
+use mathlib.Core.Path.{_≡_, sym, _∙_, ap}
+use mathlib.Core.Bool.{false}
 use mathlib.Core.List.{List}
 use Prim.Native.Nat.{ℕ}
 use lib.ListN.{length}
 use borrow.Author.Tests.{eq-eqb}
-use Rattle.rules.specs.Base.{pick, either, refuses, when, first}
+use Rattle.rules.specs.Base.{refuses, when}
 use Rattle.rules.specs.Limits.{logSize, pileSize, tableSize}
 use Rattle.rules.specs.Packed.{rowsOf, pileOf, tableBytes}
 use Rattle.rules.specs.Checks.{logChecks, depthOf}

@@ -1,5 +1,5 @@
 -- A log that checks 1 to 4 pass: its rows as the walk wants them.
-use mathlib.Core.Path.{_≡_, refl, sym, _∙_, ap, ap₂}
+use mathlib.Core.Path.{_≡_, refl, sym, _∙_, ap}
 use mathlib.Core.Bool.{Bool, true, false, true≢false}
 use mathlib.Core.List.{List, [], _∷_}
 use Prim.Native.Nat.{ℕ, zero, suc, _+_, _-_, _<_, _≤_}
@@ -9,7 +9,6 @@ use lib.ListN.{length, take}
 use borrow.Author.Tests.{ltb-false, lt-ltb, le-ltb}
 use Rattle.rules.specs.declared.Refusal.{Refusal}
 use Rattle.rules.specs.declared.Row.{Row}
-use Rattle.rules.specs.declared.Log.{Log}
 use Rattle.rules.specs.declared.LogRead.{LogRead}
 use Rattle.rules.specs.Base.{pick, refuse, nothing, refuses, within, when, first}
 use Rattle.rules.specs.Limits.{rowLimit, logSize, depthLimit}

@@ -1,7 +1,7 @@
 -- The lent table: filled from the front, as long as it was, and the reply that goes with it, check by check.
 use mathlib.Core.Path.{_≡_, refl, sym, _∙_, ap, ap₂}
 use mathlib.Core.Bool.{Bool, true, false}
-use mathlib.Core.List.{List, [], _∷_, _++_, append-assoc, append-nil}
+use mathlib.Core.List.{List, [], _∷_, _++_, append-nil}
 use Prim.Native.Nat.{ℕ, suc, _+_, _*_, _-_, _<_, _≤_}
 use native.Mathlib.Omega.{arith}
 use native.Mathlib.Numerals.{add-one}
@@ -13,7 +13,6 @@ use Rattle.rules.specs.declared.Row.{Row}
 use Rattle.rules.specs.declared.Soil.{Soil}
 use Rattle.rules.specs.declared.Pile.{Pile}
 use Rattle.rules.specs.declared.Slice.{Slice}
-use Rattle.rules.specs.declared.Answer.{Answer}
 use Rattle.rules.specs.declared.LogRead.{LogRead}
 use Rattle.rules.specs.Base.{pick, either, refuse, refuses, when, first}
 use Rattle.rules.specs.Limits.{logSize, pileSize, placeLimit, sliceSize, tableSize}
@@ -70,6 +69,14 @@ work-long rs p w e =
     ap (λ (x : Worked). length (x .bytes)) e
     ∙ omega (arith, few-slices rs p, length-append (slicesBytes cs) (replicate (tableSize - length cs * sliceSize) 0), bytes-long cs, length-replicate {A = ℕ} (tableSize - length cs * sliceSize) 0)
 
+-- what is worked out of a log that passes is what is held of it: answer, table, and how many slices
+pub held-is : (log pile : List ℕ) (r : LogRead) → r ≡ checkedLog log → r .refusal .number ≡ 0 → (w : Worked) → w ≡ workedOut (usedRows (r .log)) (pileOf pile)
+    → (w .answer ≡ freshAnswer log pile) × (w .bytes ≡ freshTable log pile) × (w .used ≡ length (slicesOfRows (rowsOf log) (pileOf pile)))
+unfolding freshAnswer freshTable workedOut
+held-is log pile r e z w f =
+    let g : w ≡ workedOut (rowsOf log) (pileOf pile) = f ∙ ap (λ (x : List Row). workedOut x (pileOf pile)) (good-log log r e z .1) in
+    (ap (λ (x : Worked). x .answer) g, ap (λ (x : Worked). x .bytes) g, ap (λ (x : Worked). x .used) g)
+
 either-none : (b : Bool) → either b false ≡ b
 either-none true = refl
 either-none false = refl
@@ -107,9 +114,7 @@ module _ (log pile table : List ℕ) where
 
     pub worked : r .refusal .number ≡ 0 → (w : Worked) → w ≡ workedOut (usedRows (r .log)) (pileOf pile)
         → (w .answer ≡ calculated log pile table) × (w .bytes ≡ tableAfter log pile table)
-    unfolding calculated tableAfter freshAnswer freshTable workedOut
+    unfolding calculated tableAfter
     worked z w f =
-        let g : w ≡ workedOut (rowsOf log) (pileOf pile) = f ∙ ap (λ (x : List Row). workedOut x (pileOf pile)) (good-log log r e z .1) in (
-          ap (λ (x : Worked). x .answer) g ∙ rw (checks, refusal-off (r .refusal) z),
-          ap (λ (x : Worked). x .bytes) g ∙ rw (checks, refusal-off (r .refusal) z),
-        )
+        let h = held-is log pile r e z w f in
+        (h .0 ∙ rw (checks, refusal-off (r .refusal) z), h .1 ∙ rw (checks, refusal-off (r .refusal) z))

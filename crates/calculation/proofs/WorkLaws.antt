@@ -1,11 +1,10 @@
 -- What is worked out, check by check.
 use mathlib.Core.Path.{_≡_, refl, sym, _∙_, ap, ap₂}
 use mathlib.Core.Bool.{Bool, true, false}
-use mathlib.Core.Logic.{_⊎_, inl, inr, ⊎-elim}
-use mathlib.Core.List.{List, [], _∷_}
+use mathlib.Core.Logic.{⊎-elim}
+use mathlib.Core.List.{List}
 use Prim.Native.Nat.{ℕ, zero, suc, _+_, _/_, _<_, _≤_}
 use native.Mathlib.Omega.{arith}
-use lib.Dec.{ltb}
 use lib.ListN.{length}
 use borrow.Author.Tests.{lt-ltb, le-ltb, eq-eqb}
 use Rattle.rules.specs.declared.Refusal.{Refusal}
@@ -31,7 +30,6 @@ use Rattle.rules.proofs.Basics.{split}
 use Rattle.shaft.specs.declared.Stratum.{Stratum}
 use Rattle.shaft.specs.declared.Shaft.{Shaft}
 use Rattle.shaft.specs.Cut.{stratumAt, cutOf, noShaft, shaftOf}
-use Rattle.calculation.specs.declared.Worked.{Worked}
 use Rattle.calculation.specs.Work.{workedOut, noWork, depthChecks}
 
 -- a refusal's number, and whether it refuses

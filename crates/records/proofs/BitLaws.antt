@@ -1,7 +1,7 @@
 -- Bits of a list of bytes: those of a part, and those of zero bytes.
-use mathlib.Core.Path.{_≡_, refl, ap, sym, _∙_}
+use mathlib.Core.Path.{_≡_}
 use mathlib.Core.List.{List}
-use Prim.Native.Nat.{ℕ, _+_, _*_, _-_, _/_, _%_, _^_, _<_, _≤_}
+use Prim.Native.Nat.{ℕ, _+_, _*_, _-_, _/_, _%_, _≤_}
 use native.Mathlib.Nat.{zero-div, zero-mod, add-assoc}
 use native.Mathlib.Omega.{arith}
 use lib.ListN.{length, getD, take, drop, length-drop, List·getD-eq-default}
@@ -17,15 +17,18 @@ bits-part s i at k n e =
     let m : k % 8 ≡ at % 8 = omega arith in
     rw (d, m) (simp (getD-drop, add-assoc))
 
-pub row-part : (s : List ℕ) (i : ℕ) → rowAt (drop i s) 0 ≡ rowAt s (i * 8)
-row-part s i =
+pub row-shift : (s : List ℕ) (i at k : ℕ) → k ≡ i * 8 + at → rowAt (drop i s) at ≡ rowAt s k
+row-shift s i at k e =
     simp (
-      bits-part s i 0 (i * 8) 16 (omega arith),
-      bits-part s i 16 (i * 8 + 16) 3 (omega arith),
-      bits-part s i 19 (i * 8 + 16 + 3) 8 (omega arith),
-      bits-part s i 27 (i * 8 + 16 + 3 + 8) 7 (omega arith),
-      bits-part s i 34 (i * 8 + 16 + 3 + 8 + 7) 6 (omega arith),
+      bits-part s i at k 16 e,
+      bits-part s i (at + 16) (k + 16) 3 (omega arith),
+      bits-part s i (at + 16 + 3) (k + 16 + 3) 8 (omega arith),
+      bits-part s i (at + 16 + 3 + 8) (k + 16 + 3 + 8) 7 (omega arith),
+      bits-part s i (at + 16 + 3 + 8 + 7) (k + 16 + 3 + 8 + 7) 6 (omega arith),
     )
+
+pub row-part : (s : List ℕ) (i : ℕ) → rowAt (drop i s) 0 ≡ rowAt s (i * 8)
+row-part s i = row-shift s i 0 (i * 8) (omega arith)
 
 -- every byte from i on is 0
 abbrev pub Blank : List ℕ → ℕ → Type 0

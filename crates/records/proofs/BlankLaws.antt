@@ -1,6 +1,6 @@
 -- Lists of zero bytes, looked through from the front.
-use mathlib.Core.Path.{_≡_, refl, ap, sym, _∙_}
-use mathlib.Core.Bool.{Bool, true, false}
+use mathlib.Core.Path.{_≡_, refl}
+use mathlib.Core.Bool.{true, false}
 use mathlib.Core.List.{List, [], _∷_}
 use Prim.Native.Nat.{ℕ, zero, suc, _+_, _-_, _<_, _≤_}
 use native.Mathlib.Numerals.{add-one}
@@ -9,12 +9,9 @@ use borrow.Author.Tests.{eq-eqb, ne-eqb, eqb-true}
 use lib.Dec.{eqb}
 use lib.ListN.{length, getD, drop, drop-of-length-le}
 use lib.Seq.{drop-cons, getD-drop}
-use Rattle.rules.specs.Base.{both, allZero}
+use Rattle.rules.specs.Base.{allZero}
 use Rattle.records.proofs.BitLaws.{Blank}
-
-pub both-true : (a b : Bool) → both a b ≡ true → (a ≡ true) × (b ≡ true)
-both-true true b h = (refl, h)
-both-true false b h = (h, cc)
+use Rattle.records.proofs.TestLaws.{both-true}
 
 pub zero-more : (s : List ℕ) (i : ℕ) → i < length s → getD s i 0 ≡ 0 → allZero (drop i s) ≡ allZero (drop (i + 1) s)
 unfolding allZero

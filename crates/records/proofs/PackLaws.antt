@@ -7,7 +7,6 @@ use native.Mathlib.Nat.{suc-min-suc}
 use native.Mathlib.Numerals.{add-one}
 use native.Mathlib.Omega.{arith}
 use borrow.Author.Tests.{lt-ltb, le-ltb, eq-eqb, ne-eqb}
-use lib.Dec.{eqb, ltb}
 use lib.ListN.{length, getD, take, drop, set, length-take, length-drop, length-append, length-map, drop-of-length-le}
 use lib.Seq.{take-nil, drop-cons, getD-take, getD-drop, paste, drop-drop}
 use Rattle.rules.specs.declared.Row.{Row}

@@ -1,5 +1,5 @@
 -- A pile record: its fields in a row, its checks, and its reading.
-use mathlib.Core.Path.{_≡_, refl, ap, sym, _∙_}
+use mathlib.Core.Path.{_≡_, refl, ap, _∙_}
 use mathlib.Core.List.{List}
 use Prim.Native.Nat.{ℕ, _+_, _<_, _≤_}
 use native.Mathlib.Omega.{arith}
@@ -68,7 +68,7 @@ pile-pack-refused p s r h e g =
     let f : r ≡ packPileCheck p s = e ∙ pile-check p s h in
     (f, rw (← f, lt-ltb _ _ g))
 
-pile-eight : (p : Pile) → length (pileBytes p) ≡ pileSize
+pub pile-eight : (p : Pile) → length (pileBytes p) ≡ pileSize
 unfolding pileBytes
 pile-eight p = refl
 

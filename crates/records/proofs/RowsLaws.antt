@@ -1,9 +1,8 @@
 -- The rows of a log, one after the other.
 use mathlib.Core.Path.{_≡_, refl, ap, ap₂, sym, _∙_}
-use mathlib.Core.Bool.{Bool, true, false}
-use mathlib.Core.List.{List, [], _∷_, _++_, append-assoc}
+use mathlib.Core.Bool.{true, false}
+use mathlib.Core.List.{List, _∷_, _++_, append-assoc}
 use Prim.Native.Nat.{ℕ, zero, suc, _+_, _*_, _-_, _<_, _≤_}
-use native.Mathlib.Numerals.{add-one}
 use native.Mathlib.Omega.{arith}
 use borrow.Author.Tests.{lt-ltb, le-ltb, eq-eqb, ne-eqb, ltb-false}
 use lib.Dec.{eqb, ltb}
@@ -13,7 +12,7 @@ use Rattle.rules.specs.declared.Row.{Row}
 use Rattle.rules.specs.declared.Log.{Log}
 use Rattle.rules.specs.declared.LogRead.{LogRead}
 use Rattle.rules.specs.declared.Refusal.{Refusal}
-use Rattle.rules.specs.Base.{pick, either, nothing, refuse, refuses, allZero, first, when}
+use Rattle.rules.specs.Base.{pick, nothing, refuse, refuses, allZero, first, when}
 use Rattle.rules.specs.Checks.{countWrong, unusedWrong, wrongField, firstWrong, fieldChecks}
 use Rattle.rules.specs.Reading.{noLog, readLog}
 use Rattle.rules.specs.Limits.{rowLimit, logSize}
@@ -21,6 +20,7 @@ use Rattle.rules.specs.Packed.{countOf, rowAt, rowsFrom, rowsOf, logOf, noRow}
 use Rattle.records.specs.Rows.{filled, rowsRead}
 use Rattle.records.proofs.BitLaws.{Blank, row-blank}
 use Rattle.records.proofs.BlankLaws.{blank-from}
+use Rattle.records.proofs.TestLaws.{either-false}
 
 pub rows-length : (s : List ℕ) (at n : ℕ) → length (rowsFrom s at n) ≡ n
 unfolding rowsFrom
@@ -124,10 +124,6 @@ reading-end s n l at i d h =
     let q : nothing ≡ firstWrong 1 (rowsFrom s 8 n) = rw m at (d .left) in
     let f : l .rows ≡ filled s n = d .rows ∙ ap (filled s) e in
     rw (← q) (ap (λ (k : Log). record { refusal = nothing; log = k }) (log-is l n (filled s n) (d .count) f))
-
-either-false : (a b : Bool) → either a b ≡ false → (a ≡ false) × (b ≡ false)
-either-false true b h = (h, cc)
-either-false false b h = (refl, h)
 
 pub count-right : (n : ℕ) → countWrong n ≡ false → n ≤ rowLimit
 count-right n h = ltb-false rowLimit n (either-false (eqb n 0) (ltb rowLimit n) h .1)

@@ -1,8 +1,8 @@
 -- The bit writer: what eight bytes hold after each field.
 use mathlib.Core.Path.{_≡_, refl, ap, sym, _∙_}
 use mathlib.Core.List.{List, [], _∷_}
-use Prim.Native.Nat.{ℕ, _+_, _*_, _-_, _/_, _%_, _^_, _<_, _≤_}
-use native.Mathlib.Nat.{mod-add-mod, add-mod-mod, mod-lt, mod-eq-of-lt, div-add-mod'}
+use Prim.Native.Nat.{ℕ, _+_, _*_, _-_, _/_, _%_, _^_, _<_}
+use native.Mathlib.Nat.{mod-add-mod, add-mod-mod, mod-eq-of-lt, div-add-mod'}
 use native.Mathlib.Omega.{arith}
 use lib.ListN.{getD}
 use Rattle.rules.specs.Packed.{fiveBytes, sevenBytes, eightBytes}

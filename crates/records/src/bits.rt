@@ -1,6 +1,5 @@
 // A bit reader and a bit writer by value: each call hands back the moved cursor with its value.
 ghost use mathlib.Core.Path.{_≡_};
-ghost use mathlib.Core.List.{_∷_};
 ghost use Prim.Native.Nat.{_+_, _-_, _*_, _^_, _≤_, _<_};
 ghost use lib.ListN.{getD};
 ghost use Rattle.rules.specs.Packed.{windowAt, bitsAt, eightBytes};

@@ -1,10 +1,10 @@
 -- The loop that cuts one slice a turn: what is cut, and what is left of the millimetre definition.
 use mathlib.Core.Path.{_≡_, refl, sym, _∙_, ap, ap₂}
 use mathlib.Core.List.{List, [], _∷_, _++_}
-use Prim.Native.Nat.{ℕ, zero, suc, _+_, _*_, _-_, _<_, _≤_, min}
+use Prim.Native.Nat.{ℕ, suc, _+_, _*_, _-_, _<_, _≤_, min}
 use native.Mathlib.Omega.{arith}
 use native.Mathlib.Numerals.{add-one}
-use lib.ListN.{length, take, drop, getD, replicate, length-drop, length-take}
+use lib.ListN.{length, take, drop, getD, replicate, length-drop}
 use lib.Seq.{drop-cons, take-suc, take-all}
 use borrow.Author.Tests.{lt-ltb, le-ltb}
 use Rattle.rules.specs.declared.Row.{Row}
@@ -16,12 +16,12 @@ use Rattle.rules.specs.Packed.{sliceBytes, slicesBytes, tableBytes}
 use Rattle.rules.specs.Checks.{depthOf}
 use Rattle.rules.specs.Reading.{noSlice}
 use Rattle.rules.specs.Ground.{soilAt}
-use Rattle.rules.specs.Pieces.{Piece, piece, piecesFrom, pieces}
+use Rattle.rules.specs.Pieces.{piece, piecesFrom, pieces}
 use Rattle.rules.specs.Numbers.{friction, factor, sliceOf, slicesOf, total}
-use Rattle.rules.specs.ByRows.{Positive, extent, thickAt}
+use Rattle.rules.specs.ByRows.{Positive, thickAt}
 use Rattle.rules.proofs.RowLaws.{next}
 use Rattle.shaft.specs.declared.Shaft.{Shaft}
-use Rattle.shaft.specs.Cut.{cutOf, noShaft, shaftOf, Fields, Read, Weighed}
+use Rattle.shaft.specs.Cut.{cutOf, noShaft, shaftOf, Read, Weighed}
 use Rattle.shaft.proofs.StratumLaws.{Whole}
 use Rattle.shaft.proofs.TableLaws.{Filled, filled-more, total-more}
 

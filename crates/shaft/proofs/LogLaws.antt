@@ -9,10 +9,10 @@ use lib.Seq.{drop-cons, getD-take}
 use Rattle.rules.specs.declared.Row.{Row}
 use Rattle.rules.specs.declared.Log.{Log}
 use Rattle.rules.specs.Checks.{depthOf}
-use Rattle.rules.specs.Ground.{soilOf, soilAt}
-use Rattle.rules.specs.ByRows.{lead, extent}
-use Rattle.rules.proofs.GroundLaws.{soil-here, soil-below}
-use Rattle.rules.proofs.RowLaws.{extent-here, extent-below}
+use Rattle.rules.specs.Ground.{soilAt}
+use Rattle.rules.specs.ByRows.{extent}
+use Rattle.rules.proofs.GroundLaws.{soil-below}
+use Rattle.rules.proofs.RowLaws.{extent-below}
 use Rattle.shaft.specs.Log.{usedRows, Placed, Good}
 
 -- row i of the first n, and the rows below it

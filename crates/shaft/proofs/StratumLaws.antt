@@ -1,17 +1,17 @@
 -- The open stratum: the rows taken so far, down to bottom, and how far its soil goes on.
 use mathlib.Core.Path.{_≡_, refl, sym, _∙_, ap, ap₂}
 use mathlib.Core.Bool.{Bool, true, false}
-use mathlib.Core.Logic.{_⊎_, inl, inr, ⊎-elim}
+use mathlib.Core.Logic.{⊎-elim}
 use mathlib.Core.List.{List, [], _∷_}
-use Prim.Native.Nat.{ℕ, zero, suc, _+_, _-_, _<_, _≤_}
+use Prim.Native.Nat.{ℕ, _+_, _-_, _<_, _≤_}
 use native.Mathlib.Omega.{arith}
 use lib.Dec.{leb}
-use lib.ListN.{length, take, drop, getD}
+use lib.ListN.{take, drop}
 use borrow.Author.Tests.{lt-leb, leb-false}
 use Rattle.rules.specs.declared.Row.{Row}
 use Rattle.rules.specs.declared.Log.{Log}
 use Rattle.rules.specs.declared.Soil.{Soil}
-use Rattle.rules.specs.Base.{pick, either}
+use Rattle.rules.specs.Base.{either}
 use Rattle.rules.specs.Checks.{depthOf}
 use Rattle.rules.specs.Ground.{same, soilOf, soilAt}
 use Rattle.rules.specs.ByRows.{lead, extent}

@@ -1,9 +1,9 @@
 -- The walk down to a millimetre: the stratum that holds it.
-use mathlib.Core.Path.{_≡_, refl, sym, _∙_, ap, ap₂}
-use mathlib.Core.List.{List, [], _∷_}
-use Prim.Native.Nat.{ℕ, zero, suc, _+_, _-_, _<_, _≤_}
+use mathlib.Core.Path.{_≡_, refl, sym, _∙_, ap}
+use mathlib.Core.List.{List, _∷_}
+use Prim.Native.Nat.{ℕ, _+_, _-_, _<_, _≤_}
 use native.Mathlib.Omega.{arith}
-use lib.ListN.{length, take, drop, getD}
+use lib.ListN.{take, drop}
 use borrow.Author.Tests.{lt-ltb, le-ltb}
 use Rattle.rules.specs.declared.Row.{Row}
 use Rattle.rules.specs.declared.Log.{Log}
@@ -14,8 +14,7 @@ use Rattle.rules.specs.Ground.{same, none, soilOf, soilAt}
 use Rattle.rules.specs.ByRows.{Positive, topFrom, topAt}
 use Rattle.rules.proofs.GroundLaws.{soil-here}
 use Rattle.rules.proofs.SeatLaws.{top-is}
-use Rattle.shaft.specs.Log.{usedRows, Placed, Good}
-use Rattle.shaft.specs.declared.Stratum.{Stratum}
+use Rattle.shaft.specs.Log.{usedRows}
 use Rattle.shaft.specs.Cut.{stratumAt}
 use Rattle.shaft.proofs.LogLaws.{soil-left, sum-more, sum-all}
 

@@ -165,7 +165,7 @@ fn weigh(c: Slice) -> u64
 
 // A slice into its place of the table.
 fn put_slice(bytes: &mut [u8; TABLE_SIZE], place: usize, c: Slice)
-    requires { ⌜ (place < placeLimit) × (length (now bytes) ≡ tableSize) × Fields c ⌝ }
+    requires { ⌜ (place < placeLimit) × (length (now bytes) ≡ tableSize) ⌝ }
     ensures { λ _. ⌜ now (bytes .exit) ≡ take (place * sliceSize) (now (bytes .entry)) ++ sliceBytes c ++ drop (place * sliceSize + sliceSize) (now (bytes .entry)) ⌝ }
 {
     let packed = records::slice_bytes(c);

@@ -1,5 +1,5 @@
 -- `calculation::calculate` meets its contract.
-use mathlib.Core.Path.{_≡_, _∙_, ap, sym}
+use mathlib.Core.Path.{_∙_, ap}
 use denote.Ref.{now}
 use Rattle.rules.specs.Answers.{refused}
 use Rattle.calculation.proofs.ReadLaws.{good-log}

@@ -1,5 +1,5 @@
 -- `calculation::checked_log` meets its contract.
-use mathlib.Core.Path.{_≡_, _∙_, ap, refl}
+use mathlib.Core.Path.{_∙_, ap}
 use Rattle.rules.specs.declared.Refusal.{Refusal}
 use Rattle.calculation.proofs.ReadLaws.{read-refused, read-placed, read-over, read-passed}
 use borrow.Author.Needs.{needs}

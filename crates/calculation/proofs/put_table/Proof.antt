@@ -1,7 +1,7 @@
 -- `calculation::put_table` meets its contract: i bytes are copied.
 use mathlib.Core.Path.{_≡_, refl}
 use mathlib.Core.List.{_++_}
-use Prim.Native.Nat.{_≤_, _-_}
+use Prim.Native.Nat.{_-_}
 use native.Mathlib.Omega.{arith}
 use lib.ListN.{length, take, drop, length-set}
 use Rattle.rules.specs.Limits.{tableSize}

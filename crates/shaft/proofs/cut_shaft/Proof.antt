@@ -95,7 +95,7 @@ next-slice-requires c κs = (c .before .before .loop-test .taken, whole (c .befo
 put-slice-requires : tie.Need-put-slice-requires Inv-loop μ-loop
 put-slice-requires c κs =
     let l = c .before .before .before .before .before .loop in
-    (omega (arith, l .inv .2 .few, c .before .before .if3 .left), filled-long _ _ (l .used) (l .inv .2 .few) (l .inv .2 .table), c .before .next-slice .ensures .fields)
+    (omega (arith, l .inv .2 .few, c .before .before .if3 .left), filled-long _ _ (l .used) (l .inv .2 .few) (l .inv .2 .table))
 
 weigh-requires : tie.Need-weigh-requires Inv-loop μ-loop
 weigh-requires c κs = c .before .before .next-slice .ensures .fields

@@ -1,7 +1,6 @@
 -- `shaft::joins` meets its contract.
-use mathlib.Core.Path.{_≡_, sym, _∙_, ap}
+use mathlib.Core.Path.{_∙_, ap}
 use borrow.Author.Tests.{le-leb, lt-leb}
-use Rattle.rules.specs.declared.Soil.{Soil}
 use Rattle.rules.specs.Ground.{same}
 use Rattle.shaft.proofs.joins.Statement.{statement}
 use Rattle.shaft.proofs.joins.Tie as tie

@@ -7,7 +7,6 @@ use native.Mathlib.Omega.{arith}
 use lib.ListN.{take, drop}
 use lib.Seq.{paste}
 use Rattle.rules.specs.Limits.{sliceSize}
-use Rattle.rules.specs.Packed.{sliceBytes}
 use Rattle.shaft.proofs.TableLaws.{slice-long, copy-none, copy-more, copy-all}
 use Rattle.shaft.proofs.put_slice.Statement.{statement}
 use Rattle.shaft.proofs.put_slice.Tie as tie

@@ -1,5 +1,4 @@
 -- `shaft::same_soil` meets its contract: the first field that differs decides.
-use mathlib.Core.Path.{sym}
 use borrow.Author.Tests.{eq-eqb, ne-eqb}
 use Rattle.rules.specs.Ground.{same}
 use Rattle.shaft.proofs.same_soil.Statement.{statement}

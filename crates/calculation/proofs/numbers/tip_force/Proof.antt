@@ -1,6 +1,4 @@
 -- `calculation::numbers::tip_force` meets its contract: R × d × d × 314159 is at most 5.7e18.
-use mathlib.Core.Path.{_≡_}
-use Prim.Native.Nat.{_≤_, _*_}
 use native.Mathlib.Nat.{mul-le-mul}
 use native.Mathlib.Omega.{arith}
 use borrow.Author.Tests.{eq-eqb, ne-eqb}

@@ -1,5 +1,5 @@
 -- `calculation::refusals::tip_refusal` meets its contract: the first test that holds decides.
-use mathlib.Core.Path.{_≡_, sym, _∙_, ap}
+use mathlib.Core.Path.{sym, _∙_, ap}
 use borrow.Author.Tests.{lt-ltb, le-ltb, le-leb, lt-leb}
 use Rattle.rules.specs.Base.{when, first}
 use Rattle.rules.specs.Numbers.{isDash}

@@ -1,6 +1,5 @@
 -- `records::log::count_wrong` meets its contract.
 use borrow.Author.Tests.{eq-eqb, ne-eqb}
-use borrow.Author.Needs.{needs}
 use Rattle.records.proofs.log.count_wrong.Statement.{statement}
 use Rattle.records.proofs.log.count_wrong.Tie as tie
 

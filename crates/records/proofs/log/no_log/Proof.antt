@@ -2,7 +2,6 @@
 use mathlib.Core.Path.{ap}
 use lib.ListN.{replicate}
 use Rattle.rules.specs.declared.Row.{Row}
-use Rattle.rules.specs.declared.LogRead.{LogRead}
 use Rattle.rules.specs.Limits.{rowLimit}
 use borrow.Author.Needs.{needs}
 use Rattle.records.proofs.log.no_log.Statement.{statement}

@@ -1,11 +1,9 @@
 -- `records::log::read_rows` meets its contract.
 use lib.ListN.{replicate}
 use Rattle.rules.specs.declared.Refusal.{Refusal}
-use Rattle.rules.specs.declared.LogRead.{LogRead}
 use Rattle.rules.specs.Limits.{rowLimit}
-use mathlib.Core.Path.{_≡_, refl, ap, sym, _∙_}
+use mathlib.Core.Path.{_≡_, refl, ap, _∙_}
 use Prim.Native.Nat.{_-_}
-use native.Mathlib.Omega.{arith}
 use Rattle.records.proofs.RowsLaws.{Reading, reading-start, reading-wrong, reading-more, reading-end}
 use borrow.Author.Needs.{needs}
 use Rattle.records.proofs.log.read_rows.Statement.{statement}

@@ -1,7 +1,6 @@
 -- `records::range::first` meets its contract.
 use borrow.Author.Tests.{lt-ltb, le-ltb}
 use Rattle.rules.specs.Base.{first}
-use borrow.Author.Needs.{needs}
 use Rattle.records.proofs.range.first.Statement.{statement}
 use Rattle.records.proofs.range.first.Tie as tie
 

@@ -1,6 +1,5 @@
 -- `records::row::row_zero` meets its contract.
 use borrow.Author.Tests.{eq-eqb, ne-eqb}
-use borrow.Author.Needs.{needs}
 use Rattle.records.proofs.row.row_zero.Statement.{statement}
 use Rattle.records.proofs.row.row_zero.Tie as tie
 

@@ -1,0 +1,30 @@
+-- psamathyr_pack_pile: the reply holds the refusal that packing gives.
+use mathlib.Core.Path.{_∙_, ap}
+use Rattle.rules.specs.Answers.{refused}
+use borrow.Author.Needs.{needs}
+use Rattle.psamathyr.proofs.psamathyr_pack_pile.Statement.{statement}
+use Rattle.psamathyr.proofs.psamathyr_pack_pile.Tie as tie
+use Rattle.psamathyr.proofs.psamathyr_pack_pile.Reads as reads
+use Rattle.psamathyr.proofs.psamathyr_pack_pile.Lts as lts
+use Rattle.psamathyr.proofs.packed.Reads as packed-reads
+use Rattle.records.proofs.pack_pile.Reads as pack-pile-reads
+
+-- src/lib.rt:47:12
+pack-pile-requires : tie.Need-pack-pile-requires
+pack-pile-requires c κs = search needs
+
+-- src/lib.rt:47:5
+packed-requires : tie.Need-packed-requires
+packed-requires c κs = search needs
+
+-- src/lib.rt:41:1
+same-length : tie.Need-same-length
+same-length c = search needs
+
+-- src/lib.rt:41:1
+returns : tie.Need-returns
+returns c = (c .packed .ensures ∙ ap refused (c .before .before .before .pack-pile .ensures .0), c .before .before .before .pack-pile .ensures .1)
+
+pub psamathyr-pack-pile-spec : {M : Type 1} → statement M
+psamathyr-pack-pile-spec =
+    tie.close (tie.spec pack-pile-requires packed-requires same-length returns)

@@ -1,0 +1,81 @@
+// The door for hosts: the core's entries under plain names, for C and Rust. Each takes any bytes of any length, and replies.
+use rules::{Answer, LogRead, PileRead, Refusal, SliceRead};
+ghost use mathlib.Core.Path.{_≡_};
+ghost use Rattle.rules.specs.Reading.{readLog, readPile, readSlice, packLogCheck, packedLog, packPileCheck, packedPile};
+ghost use Rattle.rules.specs.Answers.{refused};
+ghost use Rattle.rules.specs.Calculation.{calculated, tableAfter};
+ghost use Rattle.rules.specs.Edits.{editReply, editLog, editTable};
+ghost use Rattle.edits.specs.Asked.{asked};
+
+#[no_mangle]
+pub extern "C" fn psamathyr_calculate(log: &[u8], pile: &[u8], table: &mut [u8]) -> Answer
+    ensures reply { λ r. ⌜ r ≡ calculated (now (log .entry)) (now (pile .entry)) (now (table .entry)) ⌝ }
+    ensures table { λ _. ⌜ now (table .exit) ≡ tableAfter (now (log .entry)) (now (pile .entry)) (now (table .entry)) ⌝ }
+{
+    calculation::calculate(log, pile, table)
+}
+
+#[no_mangle]
+pub extern "C" fn psamathyr_edit(log: &mut [u8], pile: &[u8], table: &mut [u8], kind: u32, k: u32, x: u32, row: &[u8]) -> Answer
+    ensures reply { λ r. ⌜ r ≡ editReply (asked kind k x (now (row .entry))) (now (log .entry)) (now (pile .entry)) (now (table .entry)) ⌝ }
+    ensures log { λ _. ⌜ now (log .exit) ≡ editLog (asked kind k x (now (row .entry))) (now (log .entry)) (now (pile .entry)) (now (table .entry)) ⌝ }
+    ensures table { λ _. ⌜ now (table .exit) ≡ editTable (asked kind k x (now (row .entry))) (now (log .entry)) (now (pile .entry)) (now (table .entry)) ⌝ }
+{
+    edits::edit(log, pile, table, kind, k, x, row)
+}
+
+#[no_mangle]
+pub extern "C" fn psamathyr_read_log(log: &[u8]) -> LogRead
+    ensures { λ r. ⌜ r ≡ readLog (now (log .entry)) ⌝ }
+{
+    records::read_log(log)
+}
+
+// Looks at count and rows only.
+#[no_mangle]
+pub extern "C" fn psamathyr_pack_log(fields: LogRead, log: &mut [u8]) -> Answer
+    ensures reply { λ r. ⌜ r ≡ refused (packLogCheck (fields .log) (now (log .entry))) ⌝ }
+    ensures log { λ _. ⌜ now (log .exit) ≡ packedLog (fields .log) (now (log .entry)) ⌝ }
+{
+    let rows = fields.log;
+    packed(records::pack_log(rows, log))
+}
+
+#[no_mangle]
+pub extern "C" fn psamathyr_read_pile(pile: &[u8]) -> PileRead
+    ensures { λ r. ⌜ r ≡ readPile (now (pile .entry)) ⌝ }
+{
+    records::read_pile(pile)
+}
+
+// Looks at section to zero only.
+#[no_mangle]
+pub extern "C" fn psamathyr_pack_pile(fields: PileRead, pile: &mut [u8]) -> Answer
+    ensures reply { λ r. ⌜ r ≡ refused (packPileCheck (fields .pile) (now (pile .entry))) ⌝ }
+    ensures pile { λ _. ⌜ now (pile .exit) ≡ packedPile (fields .pile) (now (pile .entry)) ⌝ }
+{
+    let parts = fields.pile;
+    packed(records::pack_pile(parts, pile))
+}
+
+#[no_mangle]
+pub extern "C" fn psamathyr_read_slice(table: &[u8], place: u32) -> SliceRead
+    ensures { λ r. ⌜ r ≡ readSlice (now (table .entry)) place ⌝ }
+{
+    records::read_slice(table, place)
+}
+
+// A packing's reply: the refusal, row and field, the rest 0.
+fn packed(refusal: Refusal) -> Answer
+    ensures { λ r. ⌜ r ≡ refused refusal ⌝ }
+{
+    Answer {
+        refusal: refusal,
+        kept: 0,
+        line: 0,
+        tip: 0,
+        shaft: 0,
+        capacity: 0,
+        uplift: 0,
+    }
+}
