@@ -1,9 +1,9 @@
 -- The slices of an answer fit their places, and so a table of them is read back.
-use mathlib.Core.Path.{_≡_, refl, sym, _∙_, ap}
+use mathlib.Core.Path.{_≡_, sym, _∙_, ap}
 use mathlib.Core.Bool.{Bool, true, false}
 use mathlib.Core.Logic.{⊎-elim}
 use mathlib.Core.List.{List, [], _∷_}
-use Prim.Native.Nat.{ℕ, zero, suc, _+_, _*_, _-_, _^_, _<_, _≤_}
+use Prim.Native.Nat.{ℕ, zero, suc, _+_, _*_, _-_, _<_, _≤_}
 use native.Mathlib.Omega.{arith}
 use lib.ListN.{length, getD, List·getD-eq-default}
 use borrow.Author.Tests.{lt-ltb, le-ltb, eq-eqb}
@@ -12,6 +12,7 @@ use Rattle.rules.specs.declared.Soil.{Soil}
 use Rattle.rules.specs.declared.Pile.{Pile}
 use Rattle.rules.specs.declared.Slice.{Slice}
 use Rattle.rules.specs.Base.{pick, refuses}
+use Rattle.rules.specs.Limits.{placeLimit, tableSize, sliceSize}
 use Rattle.rules.specs.Packed.{bitsAt, sliceAt, pileOf, tableBytes}
 use Rattle.rules.specs.Checks.{depthOf}
 use Rattle.rules.specs.Reading.{noSlice, readSlice}
@@ -24,7 +25,7 @@ use Rattle.rules.proofs.Basics.{split}
 use Rattle.rules.proofs.FitLaws.{Fit, all-fit}
 use Rattle.tables.proofs.Rules.{friction-most, factor-between}
 use Rattle.calculation.proofs.TableLaws.{few-slices}
-use Rattle.page.specs.Places.{Fits, AllFit, TableOf}
+use Rattle.page.specs.Places.{AllFit, TableOf}
 use Rattle.page.proofs.PlaceLaws.{place-back}
 
 -- pieces that end above 65,536 mm give slices that fit
@@ -60,27 +61,27 @@ pub rows-table : (rs : List Row) (s t : List ℕ) → t ≡ tableBytes (slicesOf
 rows-table rs s t e = record { few = few-slices rs (pileOf s); fit = rows-fit rs s; bytes = e }
 
 -- a place that shows some thickness is one of the table
-place-past : (t : List ℕ) (i : ℕ) → length t ≡ 581 → 83 ≤ i → readSlice t i .slice ≡ noSlice
+place-past : (t : List ℕ) (i : ℕ) → length t ≡ tableSize → placeLimit ≤ i → readSlice t i .slice ≡ noSlice
 unfolding readSlice
-place-past t i l h = rw (eq-eqb (length t) 581 l, le-ltb i 83 h)
+place-past t i l h = rw (eq-eqb (length t) tableSize l, le-ltb i placeLimit h)
 
-place-in : (t : List ℕ) (i : ℕ) → length t ≡ 581 → i < 83 → readSlice t i .slice ≡ sliceAt t i
+place-in : (t : List ℕ) (i : ℕ) → length t ≡ tableSize → i < placeLimit → readSlice t i .slice ≡ sliceAt t i
 unfolding readSlice
-place-in t i l h = rw (eq-eqb (length t) 581 l, lt-ltb i 83 h)
+place-in t i l h = rw (eq-eqb (length t) tableSize l, lt-ltb i placeLimit h)
 
-pub place-some : (t : List ℕ) (i : ℕ) (c : Slice) → length t ≡ 581 → c ≡ readSlice t i .slice → (c .thickness ≡ 0 → ⊥) → i < 83
+pub place-some : (t : List ℕ) (i : ℕ) (c : Slice) → length t ≡ tableSize → c ≡ readSlice t i .slice → (c .thickness ≡ 0 → ⊥) → i < placeLimit
 place-some t i c l e h =
-    ⊎-elim (λ (g : i < 83). g)
-    (λ (g : 83 ≤ i). absurd (h (ap (λ (x : Slice). x .thickness) (e ∙ place-past t i l g))))
-    (split i 83)
+    ⊎-elim (λ (g : i < placeLimit). g)
+    (λ (g : placeLimit ≤ i). absurd (h (ap (λ (x : Slice). x .thickness) (e ∙ place-past t i l g))))
+    (split i placeLimit)
 
 -- what is read at a place of a table is the slice that it holds, or none
-pub place-is : (cs : List Slice) (t : List ℕ) (i : ℕ) (c : Slice) → length t ≡ 581 → TableOf cs t → c ≡ readSlice t i .slice → c ≡ getD cs i noSlice
+pub place-is : (cs : List Slice) (t : List ℕ) (i : ℕ) (c : Slice) → length t ≡ tableSize → TableOf cs t → c ≡ readSlice t i .slice → c ≡ getD cs i noSlice
 unfolding tableBytes
 place-is cs t i c l g e =
-    e ∙ ⊎-elim (λ (h : i < 83). place-in t i l h ∙ ap (λ (x : List ℕ). sliceAt x i) (g .bytes) ∙ place-back cs (581 - length cs * 7) i (g .fit))
-    (λ (h : 83 ≤ i). let k : length cs ≤ i = omega (arith, g .few) in place-past t i l h ∙ sym (List·getD-eq-default cs noSlice k))
-    (split i 83)
+    e ∙ ⊎-elim (λ (h : i < placeLimit). place-in t i l h ∙ ap (λ (x : List ℕ). sliceAt x i) (g .bytes) ∙ place-back cs (tableSize - length cs * sliceSize) i (g .fit))
+    (λ (h : placeLimit ≤ i). let k : length cs ≤ i = omega (arith, g .few) in place-past t i l h ∙ sym (List·getD-eq-default cs noSlice k))
+    (split i placeLimit)
 
 -- slices end where no thickness is read
 slice-some : (cs : List Slice) (i : ℕ) → AllFit cs → i < length cs → 0 < getD cs i noSlice .thickness

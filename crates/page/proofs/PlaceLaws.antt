@@ -1,11 +1,10 @@
 -- A place of a table read back: the slice that was packed there.
 use mathlib.Core.Path.{_≡_, refl, sym, _∙_, ap}
-use mathlib.Core.List.{List, [], _∷_, _++_, append-assoc}
-use Prim.Native.Nat.{ℕ, zero, suc, _+_, _*_, _/_, _%_, _^_, _<_, _≤_}
+use mathlib.Core.List.{List, [], _∷_, _++_}
+use Prim.Native.Nat.{ℕ, zero, suc, _+_, _*_, _/_, _%_, _<_}
 use native.Mathlib.Nat.{mod-eq-of-lt}
 use native.Mathlib.Omega.{arith}
-use lib.ListN.{length, getD, drop, replicate}
-use lib.Seq.{drop-at}
+use lib.ListN.{getD, drop, replicate}
 use Rattle.rules.specs.declared.Slice.{Slice}
 use Rattle.rules.specs.Packed.{bitsAt, sliceAt, sliceNumber, sevenBytes, sliceBytes, slicesBytes}
 use Rattle.rules.specs.Reading.{noSlice}

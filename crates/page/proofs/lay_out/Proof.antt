@@ -8,10 +8,11 @@ use Prim.Native.Nat.{_+_, _*_, _-_, _≤_}
 use lib.ListN.{length}
 use Rattle.rules.specs.declared.Slice.{Slice}
 use Rattle.rules.specs.declared.SliceRead.{SliceRead}
+use Rattle.rules.specs.Limits.{placeLimit}
 use Rattle.rules.specs.Reading.{readSlice}
 use Rattle.layout.specs.Sheets.{sheetTo}
 use Rattle.page.specs.Places.{TableOf}
-use Rattle.page.specs.Pages.{Laid}
+use Rattle.page.specs.Pages.{pageSize, Laid}
 use Rattle.page.proofs.FitLaws.{place-some}
 use Rattle.page.proofs.PageLaws.{page-long, laid-begun, laid-refused, laid-more, laid-ended}
 use borrow.Author.Needs.{needs}
@@ -20,14 +21,14 @@ use Rattle.page.proofs.lay_out.Tie as tie
 
 abbrev Inv-loop : tie.InvT-loop
 Inv-loop bytes₀ answer table at₀ place₀ slice₀ bytes at place slice =
-    (place ≤ 83)
-    × (length bytes ≡ 4096)
+    (place ≤ placeLimit)
+    × (length bytes ≡ pageSize)
     × (at ≤ 40 + 33 * place)
     × (slice ≡ readSlice table place .slice)
     × ((cs : List Slice) → TableOf cs table → Laid bytes at (sheetTo answer cs place))
 
 abbrev μ-loop : tie.MeasureT-loop
-μ-loop bytes₀ answer table at₀ place₀ slice₀ bytes at place slice = 84 - place
+μ-loop bytes₀ answer table at₀ place₀ slice₀ bytes at place slice = placeLimit + 1 - place
 
 put-answer-requires : tie.Need-put-answer-requires Inv-loop μ-loop
 put-answer-requires c κs = search needs

@@ -4,6 +4,7 @@ use denote.Ref.{now}
 use mathlib.Core.Path.{_∙_}
 use Prim.Native.Nat.{ℕ}
 use lib.ListN.{length-take, length-replicate}
+use Rattle.page.specs.Pages.{pageSize}
 use Rattle.page.proofs.PageLaws.{page-is}
 use borrow.Author.Needs.{needs}
 use Rattle.page.proofs.sheet.Statement.{statement}
@@ -44,7 +45,7 @@ returns c =
     let o = c .before .before .before .before .before .before .before .before .before .before .before in
     let w = c .before .before .before .before .before .calculate in
     let l = c .before .lay-out in
-    page-is (now (o .args .input)) (c .before .before .before .before .before .before .before .before .before .smaller .result) (c .before .before .before .before .before .before .before .before .before .smaller .ensures) (w .result) (w .last .1 .1 .0) (l .last .0) (l .result) (w .ensures .0) (w .ensures .1) (l .kept .0 ∙ length-replicate {A = ℕ} 4096 0) (l .ensures)
+    page-is (now (o .args .input)) (c .before .before .before .before .before .before .before .before .before .smaller .result) (c .before .before .before .before .before .before .before .before .before .smaller .ensures) (w .result) (w .last .1 .1 .0) (l .last .0) (l .result) (w .ensures .0) (w .ensures .1) (l .kept .0 ∙ length-replicate {A = ℕ} pageSize 0) (l .ensures)
 
 pub sheet-spec : {M : Type 1} → statement M
 sheet-spec =

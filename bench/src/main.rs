@@ -1,0 +1,304 @@
+//! Nanoseconds per call: the library through its C door beside a plain calculator
+//! of the same rules, by turns in the same process.
+
+#![cfg_attr(not(feature = "door"), forbid(unsafe_code))]
+#![deny(unsafe_code)]
+
+#[cfg(feature = "door")]
+#[allow(unsafe_code)]
+mod door;
+mod plain;
+
+use plain::{Answer, LOG, PILE, TABLE};
+use std::hint::black_box;
+use std::process::ExitCode;
+use std::time::Instant;
+
+type Calculate = fn(&[u8], &[u8], &mut [u8]) -> Answer;
+type Edit = fn(&mut [u8], &[u8], &mut [u8], u32, u32, u32, &[u8]) -> Answer;
+
+#[derive(Clone, Copy)]
+struct Calculator {
+    name: &'static str,
+    calculate: Calculate,
+    edit: Edit,
+}
+
+const PLAIN: Calculator = Calculator {
+    name: "plain",
+    calculate: plain::calculate,
+    edit: plain::edit,
+};
+
+#[cfg(feature = "door")]
+const LIBRARY: Option<Calculator> = Some(Calculator {
+    name: "library",
+    calculate: door::calculate,
+    edit: door::edit,
+});
+#[cfg(not(feature = "door"))]
+const LIBRARY: Option<Calculator> = None;
+
+/// Thickness, kind, stored index, saturation.
+type Row = (u64, u64, u64, u64);
+
+fn row_bytes((thickness, kind, index, saturation): Row) -> [u8; 5] {
+    let number = thickness << 24 | kind << 21 | index << 13 | saturation << 6;
+    number.to_be_bytes()[3..].try_into().expect("five bytes")
+}
+
+fn log_of(rows: &[Row]) -> [u8; LOG] {
+    let mut log = [0; LOG];
+    log[0] = rows.len() as u8;
+    for (place, row) in log[1..].chunks_mut(5).zip(rows) {
+        place.copy_from_slice(&row_bytes(*row));
+    }
+    log
+}
+
+/// A circle of 600 mm.
+fn pile_of(method: u64, head: u64, tip: u64) -> [u8; PILE] {
+    (1 << 62 | 600 << 50 | method << 36 | head << 20 | tip << 4).to_be_bytes()
+}
+
+struct Scene {
+    name: &'static str,
+    log: [u8; LOG],
+    pile: [u8; PILE],
+    slices: usize,
+    /// The row whose thickness is drawn up and down, and its soil.
+    dragged: Option<(u32, Row)>,
+}
+
+fn scenes() -> [Scene; 4] {
+    // 64 strata, 83 slices: as many as there can be.
+    let mut full = Vec::new();
+    for place in 0..63 {
+        let thickness = if place % 7 < 2 { 2_001 } else { 1 };
+        let kind = 1 + place % 6;
+        let index = if kind <= 3 { 100 } else { 103 + 5 * place % 95 };
+        full.push((thickness, kind, index, 50 + place % 50));
+    }
+    let tip = full.iter().map(|row| row.0).sum::<u64>() + 2_001;
+    full.push((2_001 + 5_200, 6, 133, 95));
+
+    let usual = [
+        (1_200, 5, 145, 80),
+        (1_800, 2, 100, 70),
+        (2_500, 4, 160, 90),
+        (2_200, 5, 172, 95),
+        (1_700, 3, 100, 98),
+        (2_600, 6, 138, 95),
+        (6_000, 6, 127, 96),
+        (7_000, 5, 115, 97),
+    ];
+    [
+        Scene {
+            name: "full log",
+            log: log_of(&full),
+            pile: pile_of(1, 0, tip),
+            slices: 83,
+            dragged: None,
+        },
+        Scene {
+            name: "usual log",
+            log: log_of(&usual),
+            pile: pile_of(2, 1_000, 17_000),
+            slices: 12,
+            dragged: None,
+        },
+        Scene {
+            name: "dragged boundary",
+            log: log_of(&usual),
+            pile: pile_of(2, 1_000, 17_000),
+            slices: 12,
+            dragged: Some((3, usual[2])),
+        },
+        Scene {
+            name: "dragged, full log",
+            log: log_of(&full),
+            pile: pile_of(1, 0, tip),
+            slices: 83,
+            dragged: Some((1, full[0])),
+        },
+    ]
+}
+
+/// What a dragging holds between two calls.
+#[derive(Clone, PartialEq)]
+struct Desk {
+    log: [u8; LOG],
+    table: [u8; TABLE],
+    step: u64,
+}
+
+impl Desk {
+    fn new(scene: &Scene) -> Desk {
+        Desk {
+            log: scene.log,
+            table: [0; TABLE],
+            step: 0,
+        }
+    }
+
+    /// The next call of a scene: a calculation, or a boundary drawn one millimetre on.
+    #[inline(always)]
+    fn call(&mut self, scene: &Scene, by: &Calculator) -> Answer {
+        let Some((k, soil)) = scene.dragged else {
+            return (by.calculate)(
+                black_box(&self.log),
+                black_box(&scene.pile),
+                black_box(&mut self.table),
+            );
+        };
+        // Up and down by 100 mm, starting at the thickness as it is; never deeper.
+        let phase = self.step % 200;
+        let less = if phase < 100 { phase + 1 } else { 199 - phase };
+        self.step += 1;
+        let row = row_bytes((soil.0 - less, soil.1, soil.2, soil.3));
+        (by.edit)(
+            black_box(&mut self.log),
+            black_box(&scene.pile),
+            black_box(&mut self.table),
+            1,
+            k,
+            0,
+            black_box(&row),
+        )
+    }
+}
+
+fn used(table: &[u8]) -> usize {
+    table
+        .chunks(7)
+        .take_while(|slice| slice.iter().any(|byte| *byte != 0))
+        .count()
+}
+
+/// Both give the same for every call of a scene.
+fn same(scene: &Scene) -> bool {
+    let mut own = Desk::new(scene);
+    let mut other = own.clone();
+    let mut most = 0;
+    for call in 0..1_000 {
+        let answer = own.call(scene, &PLAIN);
+        if answer.refusal != 0 {
+            println!("{}: refused by {}", scene.name, answer.refusal);
+            return false;
+        }
+        most = most.max(used(&own.table));
+        if let Some(library) = LIBRARY {
+            let reply = other.call(scene, &library);
+            if reply != answer || own != other {
+                println!("{}: call {call} differs", scene.name);
+                println!("  library {reply:?}\n  plain   {answer:?}");
+                return false;
+            }
+        }
+    }
+    if most != scene.slices {
+        println!("{}: {most} slices, not {}", scene.name, scene.slices);
+        return false;
+    }
+    true
+}
+
+/// Best and median of many repeats, nanoseconds per call.
+struct Times(Vec<f64>);
+
+impl Times {
+    fn add(&mut self, scene: &Scene, desk: &mut Desk, by: &Calculator, calls: u32) {
+        let start = Instant::now();
+        for _ in 0..calls {
+            black_box(desk.call(scene, by));
+        }
+        self.0
+            .push(start.elapsed().as_nanos() as f64 / f64::from(calls));
+    }
+
+    fn best_and_median(&mut self) -> (f64, f64) {
+        self.0.sort_by(f64::total_cmp);
+        (self.0[0], self.0[self.0.len() / 2])
+    }
+}
+
+fn measure(scene: &Scene, repeats: u32, calls: u32) {
+    let mut all: Vec<(Calculator, Desk, Times)> = LIBRARY
+        .into_iter()
+        .chain([PLAIN])
+        .map(|by| (by, Desk::new(scene), Times(Vec::new())))
+        .collect();
+    // Once to warm up, not counted.
+    for (by, desk, _) in &mut all {
+        Times(Vec::new()).add(scene, desk, by, calls);
+    }
+    for turn in 0..repeats {
+        if turn % 2 == 1 {
+            all.reverse();
+        }
+        for (by, desk, times) in &mut all {
+            times.add(scene, desk, by, calls);
+        }
+        if turn % 2 == 1 {
+            all.reverse();
+        }
+    }
+    let mut results = Vec::new();
+    print!("{:<18}", scene.name);
+    for (by, _, times) in &mut all {
+        let (best, median) = times.best_and_median();
+        print!("  {} best {best:7.1} median {median:7.1} ns", by.name);
+        results.push((best, median));
+    }
+    if let [library, plain] = results[..] {
+        print!(
+            "  ratio best {:.2} median {:.2}",
+            library.0 / plain.0,
+            library.1 / plain.1
+        );
+    }
+    println!();
+}
+
+fn main() -> ExitCode {
+    let scenes = scenes();
+    if !scenes.iter().all(same) {
+        return ExitCode::FAILURE;
+    }
+    match LIBRARY {
+        Some(_) => println!("library and plain calculator give the same"),
+        None => println!("plain calculator alone"),
+    }
+    for scene in &scenes {
+        let calls = if scene.slices > 20 { 500 } else { 2_000 };
+        measure(scene, 600, calls);
+    }
+    ExitCode::SUCCESS
+}
+
+#[cfg(test)]
+mod tests {
+    use super::*;
+
+    #[test]
+    fn scenes_are_accepted() {
+        assert!(scenes().iter().all(same));
+    }
+
+    #[test]
+    fn known_numbers() {
+        let pile = pile_of(1, 1_000, 10_000);
+        let mut table = [9; TABLE];
+        let answer = plain::calculate(&log_of(&[(20_000, 6, 130, 95)]), &pile, &mut table);
+        let numbers = [
+            answer.line,
+            answer.tip,
+            answer.shaft,
+            answer.capacity,
+            answer.uplift,
+        ];
+        assert_eq!(numbers, [212_100, 268_605, 399_798, 668_403, 319_838]);
+        assert_eq!(table[..7], [0x03, 0xE8, 0xFA, 0x05, 0xB8, 0xD8, 0x06]);
+        assert_eq!(used(&table), 5);
+    }
+}

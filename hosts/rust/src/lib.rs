@@ -1,0 +1,506 @@
+//! A safe wrapper over the proved core of Psamathyr: bored piles from a borehole log.
+//!
+//! ```
+//! use psamathyr::{calculate, Kind, Log, Method, Pile, Row, Section, Table};
+//!
+//! // 20,000 mm of clay, liquidity index 0.30, saturation 0.95
+//! let log = Log::of(&[Row { thickness_mm: 20_000, kind: Kind::Clay, index_hundredths: 30, saturation_hundredths: 95 }]).unwrap();
+//! let pile = Pile { section: Section::Circle { diameter_mm: 600 }, method: Method::Dry, head_mm: 1_000, tip_mm: 10_000 }.pack().unwrap();
+//! let mut table = Table::new();
+//! let numbers = calculate(&log, &pile, &mut table).unwrap();
+//! assert_eq!(numbers.capacity_n, 668_403);
+//! assert_eq!(table.slices().len(), 5);
+//! assert_eq!(table.slices()[0].friction_200ths_pa, 6_000_000);
+//! ```
+#![deny(missing_docs)]
+
+use std::fmt;
+
+mod door;
+
+/// Bytes of a log, a pile record, a slice table and a row.
+pub const LOG_BYTES: usize = 321;
+/// Bytes of a pile record.
+pub const PILE_BYTES: usize = 8;
+/// Bytes of a slice table.
+pub const TABLE_BYTES: usize = 581;
+/// Bytes of a packed row.
+pub const ROW_BYTES: usize = 5;
+/// Rows that a log has room for.
+pub const ROWS: usize = 64;
+/// Places of a slice table.
+pub const PLACES: u32 = 83;
+
+/// Why the core says no.
+#[derive(Clone, Copy, Debug, PartialEq, Eq)]
+pub enum Refusal {
+    /// 1: a lent piece has the wrong length.
+    Length,
+    /// 2: count 0 or over 64, or an unused row place not zero.
+    Count,
+    /// 3: a row's field out of range.
+    Field {
+        /// The row, counted from 1.
+        row: u32,
+        /// 1 thickness, 2 kind, 3 index, 4 saturation, 5 zero bits.
+        field: u32,
+    },
+    /// 4: log over 60,000 mm.
+    TooDeep,
+    /// 5: section kind, a, b or the zero bits wrong.
+    Section {
+        /// 1 section kind, 2 a, 3 b, 4 zero bits.
+        field: u32,
+    },
+    /// 6: no such method.
+    Method,
+    /// 7: head not above tip, or tip under 3,000 or over 40,000 mm.
+    Depths,
+    /// 8: log ends less than 5,000 mm below the tip.
+    LogShort,
+    /// 9: sand just below the tip.
+    SandTip,
+    /// 10: seat too short.
+    SeatShort,
+    /// 11: tip liquidity index over 0.60.
+    TooSoft,
+    /// 12: a dash of the tip table would be read.
+    Dash,
+    /// 13: the edit is none of the four kinds, names no such row or split point, or removes the only row.
+    NoSuchEdit,
+    /// 14: insert or split with 64 rows.
+    Full,
+    /// 15: the shaft needs more than 83 slices.
+    TooManySlices,
+    /// A number that this wrapper does not know.
+    Other(u32),
+}
+
+impl Refusal {
+    fn of(number: u32, row: u32, field: u32) -> Option<Refusal> {
+        Some(match number {
+            0 => return None,
+            1 => Refusal::Length,
+            2 => Refusal::Count,
+            3 => Refusal::Field { row, field },
+            4 => Refusal::TooDeep,
+            5 => Refusal::Section { field },
+            6 => Refusal::Method,
+            7 => Refusal::Depths,
+            8 => Refusal::LogShort,
+            9 => Refusal::SandTip,
+            10 => Refusal::SeatShort,
+            11 => Refusal::TooSoft,
+            12 => Refusal::Dash,
+            13 => Refusal::NoSuchEdit,
+            14 => Refusal::Full,
+            15 => Refusal::TooManySlices,
+            n => Refusal::Other(n),
+        })
+    }
+
+    /// The refusal's number in the norm paper's list.
+    pub fn number(self) -> u32 {
+        match self {
+            Refusal::Length => 1,
+            Refusal::Count => 2,
+            Refusal::Field { .. } => 3,
+            Refusal::TooDeep => 4,
+            Refusal::Section { .. } => 5,
+            Refusal::Method => 6,
+            Refusal::Depths => 7,
+            Refusal::LogShort => 8,
+            Refusal::SandTip => 9,
+            Refusal::SeatShort => 10,
+            Refusal::TooSoft => 11,
+            Refusal::Dash => 12,
+            Refusal::NoSuchEdit => 13,
+            Refusal::Full => 14,
+            Refusal::TooManySlices => 15,
+            Refusal::Other(n) => n,
+        }
+    }
+}
+
+impl fmt::Display for Refusal {
+    fn fmt(&self, f: &mut fmt::Formatter<'_>) -> fmt::Result {
+        match self {
+            Refusal::Length => write!(f, "a lent piece has the wrong length"),
+            Refusal::Count => write!(f, "no row, more than 64 rows, or an unused row place that is not zero"),
+            Refusal::Field { row, field } => write!(f, "row {row}, field {field} is out of range"),
+            Refusal::TooDeep => write!(f, "the log is deeper than 60,000 mm"),
+            Refusal::Section { field: 1 } => write!(f, "no such section"),
+            Refusal::Section { field: 2 } => write!(f, "the diameter or first side is out of range"),
+            Refusal::Section { field: 3 } => write!(f, "the second side is out of range"),
+            Refusal::Section { .. } => write!(f, "the pile record's zero bits are not zero"),
+            Refusal::Method => write!(f, "no such method"),
+            Refusal::Depths => write!(f, "the head is not above the tip, or the tip is under 3,000 or over 40,000 mm"),
+            Refusal::LogShort => write!(f, "the log ends less than 5,000 mm below the tip"),
+            Refusal::SandTip => write!(f, "sand stands just below the tip"),
+            Refusal::SeatShort => write!(f, "the seat in the tip stratum is too short"),
+            Refusal::TooSoft => write!(f, "the tip's liquidity index is over 0.60"),
+            Refusal::Dash => write!(f, "the tip table has no value there"),
+            Refusal::NoSuchEdit => write!(f, "no such edit, row or split point"),
+            Refusal::Full => write!(f, "the log has no place for another row"),
+            Refusal::TooManySlices => write!(f, "the shaft needs more than 83 slices"),
+            Refusal::Other(n) => write!(f, "refusal {n}"),
+        }
+    }
+}
+
+impl std::error::Error for Refusal {}
+
+/// What stands in a row.
+#[derive(Clone, Copy, Debug, PartialEq, Eq)]
+#[allow(missing_docs)]
+pub enum Kind {
+    CoarseOrMediumSand = 1,
+    FineSand = 2,
+    SiltySand = 3,
+    SandyLoam = 4,
+    Loam = 5,
+    Clay = 6,
+}
+
+impl Kind {
+    fn of(n: u8) -> Option<Kind> {
+        Some(match n {
+            1 => Kind::CoarseOrMediumSand,
+            2 => Kind::FineSand,
+            3 => Kind::SiltySand,
+            4 => Kind::SandyLoam,
+            5 => Kind::Loam,
+            6 => Kind::Clay,
+            _ => return None,
+        })
+    }
+}
+
+/// A row of a log.
+#[derive(Clone, Copy, Debug, PartialEq, Eq)]
+pub struct Row {
+    /// 1 to 60,000 mm.
+    pub thickness_mm: u16,
+    /// What stands there.
+    pub kind: Kind,
+    /// Liquidity index in hundredths, -100 to 100; sands have 0.
+    pub index_hundredths: i16,
+    /// Degree of saturation in hundredths, 0 to 100.
+    pub saturation_hundredths: u8,
+}
+
+impl Row {
+    fn fields(self) -> door::Row {
+        // an index that fits no stored number becomes 255, which the core refuses as field 3
+        let stored = i32::from(self.index_hundredths) + 100;
+        let index = u8::try_from(stored).unwrap_or(255);
+        door::Row { thickness: self.thickness_mm, kind: self.kind as u8, index, saturation: self.saturation_hundredths, zero: 0 }
+    }
+
+    fn of(r: door::Row) -> Option<Row> {
+        Some(Row {
+            thickness_mm: r.thickness,
+            kind: Kind::of(r.kind)?,
+            index_hundredths: i16::from(r.index) - 100,
+            saturation_hundredths: r.saturation,
+        })
+    }
+
+    /// The row's five packed bytes, as an edit brings them.
+    ///
+    /// ```
+    /// use psamathyr::{Kind, Row};
+    /// let row = Row { thickness_mm: 20_000, kind: Kind::Clay, index_hundredths: 30, saturation_hundredths: 95 };
+    /// assert_eq!(row.pack().unwrap(), [0x4E, 0x20, 0xD0, 0x57, 0xC0]);
+    /// ```
+    pub fn pack(self) -> Result<[u8; ROW_BYTES], Refusal> {
+        let log = Log::of(&[self])?;
+        let mut bytes = [0; ROW_BYTES];
+        bytes.copy_from_slice(&log.bytes[1..1 + ROW_BYTES]);
+        Ok(bytes)
+    }
+}
+
+/// A packed log of 321 bytes. Any bytes may stand in it; each call judges them.
+#[derive(Clone, Copy, Debug, PartialEq, Eq)]
+pub struct Log {
+    /// The packed bytes.
+    pub bytes: [u8; LOG_BYTES],
+}
+
+impl Log {
+    /// A log of these rows, top row first.
+    pub fn of(rows: &[Row]) -> Result<Log, Refusal> {
+        if rows.len() > ROWS {
+            return Err(Refusal::Count);
+        }
+        let mut fields = door::Log::empty();
+        fields.count = rows.len() as u8;
+        for (place, row) in fields.rows.iter_mut().zip(rows) {
+            *place = row.fields();
+        }
+        let mut bytes = [0; LOG_BYTES];
+        let a = door::pack_log(fields, &mut bytes);
+        match Refusal::of(a.refusal, a.row, a.field) {
+            Some(refusal) => Err(refusal),
+            None => Ok(Log { bytes }),
+        }
+    }
+
+    /// The rows, top row first.
+    ///
+    /// ```
+    /// use psamathyr::{Log, Refusal};
+    /// assert_eq!(Log { bytes: [0; 321] }.rows(), Err(Refusal::Count));
+    /// ```
+    pub fn rows(&self) -> Result<Vec<Row>, Refusal> {
+        let l = door::read_log(&self.bytes);
+        match Refusal::of(l.refusal, l.row, l.field) {
+            Some(refusal) => Err(refusal),
+            None => Ok(l.rows[..usize::from(l.count)].iter().filter_map(|r| Row::of(*r)).collect()),
+        }
+    }
+}
+
+/// The pile's section.
+#[derive(Clone, Copy, Debug, PartialEq, Eq)]
+pub enum Section {
+    /// Round, 150 to 2,000 mm.
+    Circle {
+        /// The diameter.
+        diameter_mm: u16,
+    },
+    /// A barrette, each side 300 to 4,000 mm.
+    Rectangle {
+        /// One side.
+        a_mm: u16,
+        /// The other.
+        b_mm: u16,
+    },
+}
+
+/// The way the concrete goes in.
+#[derive(Clone, Copy, Debug, PartialEq, Eq)]
+pub enum Method {
+    /// Dry or cased.
+    Dry = 1,
+    /// Under water or slurry.
+    UnderWater = 2,
+    /// Stiff mix vibrated at depth, dry.
+    Vibrated = 3,
+}
+
+/// A pile: section, method, head and tip.
+#[derive(Clone, Copy, Debug, PartialEq, Eq)]
+pub struct Pile {
+    /// The section.
+    pub section: Section,
+    /// The way the concrete goes in.
+    pub method: Method,
+    /// Depth of the head.
+    pub head_mm: u16,
+    /// Depth of the tip.
+    pub tip_mm: u16,
+}
+
+/// A packed pile record of 8 bytes. Any bytes may stand in it; each call judges them.
+#[derive(Clone, Copy, Debug, PartialEq, Eq)]
+pub struct PileRecord {
+    /// The packed bytes.
+    pub bytes: [u8; PILE_BYTES],
+}
+
+impl Pile {
+    /// The packed record.
+    ///
+    /// ```
+    /// use psamathyr::{Method, Pile, Section};
+    /// let pile = Pile { section: Section::Circle { diameter_mm: 600 }, method: Method::Dry, head_mm: 1_000, tip_mm: 10_000 };
+    /// assert_eq!(pile.pack().unwrap().bytes, [0x49, 0x60, 0x00, 0x10, 0x3E, 0x82, 0x71, 0x00]);
+    /// assert_eq!(pile.pack().unwrap().pile().unwrap(), pile);
+    /// ```
+    pub fn pack(self) -> Result<PileRecord, Refusal> {
+        let mut fields = door::Pile::empty();
+        match self.section {
+            Section::Circle { diameter_mm } => {
+                fields.section = 1;
+                fields.a = diameter_mm;
+            }
+            Section::Rectangle { a_mm, b_mm } => {
+                fields.section = 2;
+                fields.a = a_mm;
+                fields.b = b_mm;
+            }
+        }
+        fields.method = self.method as u8;
+        fields.head = self.head_mm;
+        fields.tip = self.tip_mm;
+        let mut bytes = [0; PILE_BYTES];
+        let a = door::pack_pile(fields, &mut bytes);
+        match Refusal::of(a.refusal, a.row, a.field) {
+            Some(refusal) => Err(refusal),
+            None => Ok(PileRecord { bytes }),
+        }
+    }
+}
+
+impl PileRecord {
+    /// The fields.
+    pub fn pile(&self) -> Result<Pile, Refusal> {
+        let p = door::read_pile(&self.bytes);
+        if let Some(refusal) = Refusal::of(p.refusal, p.row, p.field) {
+            return Err(refusal);
+        }
+        let section = match p.section {
+            1 => Section::Circle { diameter_mm: p.a },
+            _ => Section::Rectangle { a_mm: p.a, b_mm: p.b },
+        };
+        let method = match p.method {
+            1 => Method::Dry,
+            2 => Method::UnderWater,
+            _ => Method::Vibrated,
+        };
+        Ok(Pile { section, method, head_mm: p.head, tip_mm: p.tip })
+    }
+}
+
+/// A slice of the shaft.
+#[derive(Clone, Copy, Debug, PartialEq, Eq)]
+pub struct Slice {
+    /// Depth of its top.
+    pub top_mm: u16,
+    /// Its thickness.
+    pub thickness_mm: u16,
+    /// Friction in 1/200 Pa.
+    pub friction_200ths_pa: u32,
+    /// Method factor in tenths.
+    pub factor_tenths: u8,
+}
+
+/// A slice table of 581 bytes.
+#[derive(Clone, Copy, Debug, PartialEq, Eq)]
+pub struct Table {
+    /// The packed bytes.
+    pub bytes: [u8; TABLE_BYTES],
+}
+
+impl Default for Table {
+    fn default() -> Table {
+        Table::new()
+    }
+}
+
+impl Table {
+    /// An empty table.
+    pub fn new() -> Table {
+        Table { bytes: [0; TABLE_BYTES] }
+    }
+
+    /// The used slices, from the head down.
+    pub fn slices(&self) -> Vec<Slice> {
+        (0..PLACES)
+            .map(|place| door::read_slice(&self.bytes, place))
+            .take_while(|s| s.thickness != 0)
+            .map(|s| Slice { top_mm: s.top, thickness_mm: s.thickness, friction_200ths_pa: s.friction, factor_tenths: s.factor })
+            .collect()
+    }
+}
+
+/// The five numbers of a pile.
+#[derive(Clone, Copy, Debug, PartialEq, Eq)]
+pub struct Numbers {
+    /// Shaft friction, N per metre of perimeter.
+    pub line_n_per_m: u64,
+    /// Tip, N.
+    pub tip_n: u64,
+    /// Shaft, N.
+    pub shaft_n: u64,
+    /// Capacity, N.
+    pub capacity_n: u64,
+    /// Uplift, N.
+    pub uplift_n: u64,
+}
+
+impl Numbers {
+    fn of(a: &door::Answer) -> Result<Numbers, Refusal> {
+        match Refusal::of(a.refusal, a.row, a.field) {
+            Some(refusal) => Err(refusal),
+            None => Ok(Numbers { line_n_per_m: a.line, tip_n: a.tip, shaft_n: a.shaft, capacity_n: a.capacity, uplift_n: a.uplift }),
+        }
+    }
+}
+
+/// Works out a pile and fills the table. Under refusals 5 to 12 and 15 the table becomes all zero, under 1 to 4 it is left.
+pub fn calculate(log: &Log, pile: &PileRecord, table: &mut Table) -> Result<Numbers, Refusal> {
+    Numbers::of(&door::calculate(&log.bytes, &pile.bytes, &mut table.bytes))
+}
+
+/// A change of a log; rows count from 1.
+#[derive(Clone, Copy, Debug, PartialEq, Eq)]
+pub enum Edit {
+    /// The row becomes another.
+    Replace {
+        /// Which row.
+        k: u32,
+        /// The new row's packed bytes.
+        row: [u8; ROW_BYTES],
+    },
+    /// A row comes in before row k; k may be one more than the count.
+    Insert {
+        /// Before which row.
+        k: u32,
+        /// The new row's packed bytes.
+        row: [u8; ROW_BYTES],
+    },
+    /// The row goes.
+    Remove {
+        /// Which row.
+        k: u32,
+    },
+    /// The row becomes two of the same soil.
+    Split {
+        /// Which row.
+        k: u32,
+        /// Thickness of the upper part.
+        x_mm: u32,
+    },
+}
+
+/// What an accepted edit holds: the answer of the log as it now stands, and how many leading slices were kept.
+#[derive(Clone, Copy, Debug, PartialEq, Eq)]
+pub struct Edited {
+    /// The held answer.
+    pub answer: Result<Numbers, Refusal>,
+    /// Leading slices whose bytes already stood in the table.
+    pub kept: u32,
+}
+
+/// Changes the log and works the pile out again. `Err` is a refused edit: nothing has changed. `Ok` holds the answer, which may itself be a
+/// refusal of the pile (5 to 12 and 15).
+///
+/// ```
+/// use psamathyr::*;
+/// let clay = Row { thickness_mm: 20_000, kind: Kind::Clay, index_hundredths: 30, saturation_hundredths: 95 };
+/// let mut log = Log::of(&[clay]).unwrap();
+/// let pile = Pile { section: Section::Circle { diameter_mm: 600 }, method: Method::Dry, head_mm: 1_000, tip_mm: 10_000 }.pack().unwrap();
+/// let mut table = Table::new();
+/// let before = calculate(&log, &pile, &mut table);
+/// let split = edit(&mut log, &pile, &mut table, Edit::Split { k: 1, x_mm: 7_777 }).unwrap();
+/// assert_eq!(split.answer, before);
+/// assert_eq!(split.kept, 5);
+/// assert_eq!(edit(&mut log, &pile, &mut table, Edit::Remove { k: 3 }), Err(Refusal::NoSuchEdit));
+/// ```
+pub fn edit(log: &mut Log, pile: &PileRecord, table: &mut Table, change: Edit) -> Result<Edited, Refusal> {
+    let (kind, k, x, row) = match change {
+        Edit::Replace { k, row } => (1, k, 0, Some(row)),
+        Edit::Insert { k, row } => (2, k, 0, Some(row)),
+        Edit::Remove { k } => (3, k, 0, None),
+        Edit::Split { k, x_mm } => (4, k, x_mm, None),
+    };
+    let row: &[u8] = row.as_ref().map_or(&[], |r| r);
+    let a = door::edit(&mut log.bytes, &pile.bytes, &mut table.bytes, kind, k, x, row);
+    match a.refusal {
+        1..=4 | 13 | 14 => Err(Refusal::of(a.refusal, a.row, a.field).unwrap_or(Refusal::Other(a.refusal))),
+        _ => Ok(Edited { answer: Numbers::of(&a), kept: a.kept }),
+    }
+}

@@ -1,0 +1,201 @@
+//! A calculation: the checks in their order, then the numbers.
+
+#![forbid(unsafe_code)]
+
+use crate::fraction::Fraction;
+use crate::ground::{millimetres, pieces, strata, Piece, Soil};
+use crate::records::{check_pile, depth, open_log, pile_fields, slice_bytes};
+use crate::{tables, Answer, Pile, Refusal, Row, Slice, PILE, SLICE, SLICES, TABLE};
+
+/// Works out a pile in a log and fills the table.
+pub fn calculate(log: &[u8], pile: &[u8], table: &mut [u8]) -> Answer {
+    let rows = match lent(log, pile, table) {
+        Ok(rows) => rows,
+        Err(refusal) => return refusal.answer(),
+    };
+    let (answer, filled) = work_out(&rows, pile);
+    table.copy_from_slice(&filled);
+    answer
+}
+
+/// Checks 1 to 4 of what every calculation and edit is lent.
+fn lent(log: &[u8], pile: &[u8], table: &[u8]) -> Result<Vec<Row>, Refusal> {
+    if pile.len() != PILE || table.len() != TABLE {
+        return Err(Refusal::plain(1));
+    }
+    let rows = open_log(log)?;
+    depth(&rows)?;
+    Ok(rows)
+}
+
+/// The same with the row an edit brings, if its kind uses one.
+pub(crate) fn lent_with_row(
+    log: &[u8],
+    pile: &[u8],
+    table: &[u8],
+    row: Option<&[u8]>,
+) -> Result<Vec<Row>, Refusal> {
+    if matches!(row, Some(bytes) if bytes.len() != crate::ROW) {
+        return Err(Refusal::plain(1));
+    }
+    lent(log, pile, table)
+}
+
+/// The answer and the whole table for rows that passed the log checks.
+pub(crate) fn work_out(rows: &[Row], pile: &[u8]) -> (Answer, Vec<u8>) {
+    match numbers(rows, &pile_fields(pile)) {
+        Ok((answer, slices)) => {
+            let mut table = Vec::with_capacity(TABLE);
+            for slice in &slices {
+                table.extend(slice_bytes(slice));
+            }
+            debug_assert_eq!(table.len(), slices.len() * SLICE);
+            table.resize(TABLE, 0);
+            (answer, table)
+        }
+        Err(refusal) => (refusal.answer(), vec![0; TABLE]),
+    }
+}
+
+/// Checks 5 to 12 and 15, then the numbers.
+fn numbers(rows: &[Row], pile: &Pile) -> Result<(Answer, Vec<Slice>), Refusal> {
+    check_pile(pile)?;
+
+    let head = usize::from(pile.head);
+    let tip = usize::from(pile.tip);
+    if head >= tip || !(3_000..=40_000).contains(&tip) {
+        return Err(Refusal::plain(7));
+    }
+
+    let ground = millimetres(rows);
+    if ground.len() < tip + 5_000 {
+        return Err(Refusal::plain(8));
+    }
+
+    let below = ground[tip];
+    if below.is_sand() {
+        return Err(Refusal::plain(9));
+    }
+
+    let strata = strata(&ground);
+    let seat_top = strata
+        .iter()
+        .find(|stratum| stratum.top <= tip && tip < stratum.bottom)
+        .map(|stratum| stratum.top.max(head))
+        .expect("a stratum at the tip");
+    let seat = tip - seat_top;
+    let side = usize::from(pile.a.max(pile.b));
+    if seat < 2_000 || seat < side {
+        return Err(Refusal::plain(10));
+    }
+
+    if below.index() > Fraction::new(60, 100) {
+        return Err(Refusal::plain(11));
+    }
+
+    let kilopascals = tables::tip()
+        .at(metres(tip), below.index())
+        .map_err(|tables::Dash| Refusal::plain(12))?;
+
+    let pieces = pieces(&strata, head, tip);
+    if pieces.len() > SLICES {
+        return Err(Refusal::plain(15));
+    }
+    let slices: Vec<Slice> = pieces
+        .iter()
+        .map(|piece| slice(piece, pile.method))
+        .collect();
+    assert_eq!(
+        slices
+            .iter()
+            .map(|slice| usize::from(slice.thickness))
+            .sum::<usize>(),
+        tip - head
+    );
+
+    let resistance = (kilopascals * Fraction::whole(1_000)).floor();
+    let line = slices
+        .iter()
+        .map(share)
+        .fold(Fraction::ZERO, |sum, part| sum + part)
+        .floor();
+    let (area, perimeter) = section(pile);
+    let tip_force = (Fraction::whole(resistance) * area).floor();
+    let shaft = (Fraction::whole(line) * perimeter).floor();
+    let soaked = if below.saturation() < 90 {
+        Fraction::new(8, 10)
+    } else {
+        Fraction::ONE
+    };
+    let pull = if tip - head < 4_000 {
+        Fraction::new(6, 10)
+    } else {
+        Fraction::new(8, 10)
+    };
+    let answer = Answer {
+        line: line as u64,
+        tip: tip_force as u64,
+        shaft: shaft as u64,
+        capacity: (Fraction::whole(tip_force + shaft) * soaked).floor() as u64,
+        uplift: (Fraction::whole(shaft) * pull).floor() as u64,
+        ..Answer::default()
+    };
+    Ok((answer, slices))
+}
+
+fn metres(millimetres: usize) -> Fraction {
+    Fraction::new(millimetres as i128, 1_000)
+}
+
+/// Area in square metres and perimeter in metres.
+fn section(pile: &Pile) -> (Fraction, Fraction) {
+    let pi = Fraction::decimal("3.14159");
+    let a = metres(usize::from(pile.a));
+    let b = metres(usize::from(pile.b));
+    if pile.section == 1 {
+        (pi * a * a / Fraction::whole(4), pi * a)
+    } else {
+        (a * b, Fraction::whole(2) * (a + b))
+    }
+}
+
+fn slice(piece: &Piece, method: u8) -> Slice {
+    let middle = Fraction::new((2 * piece.top + piece.thickness) as i128, 2_000);
+    let kilopascals = tables::friction()
+        .at(middle, friction_index(piece.soil))
+        .expect("no dash in this table");
+    Slice {
+        refusal: 0,
+        top: piece.top as u16,
+        thickness: piece.thickness as u16,
+        friction: (kilopascals * Fraction::whole(200_000)).exactly() as u32,
+        factor: factor(method, piece.soil.kind()),
+    }
+}
+
+/// The index by which friction is read; sands have a column each.
+fn friction_index(soil: Soil) -> Fraction {
+    match soil.kind() {
+        1 => Fraction::decimal("0.2"),
+        2 => Fraction::decimal("0.3"),
+        3 => Fraction::decimal("0.4"),
+        _ => soil.index(),
+    }
+}
+
+/// The method factor in tenths.
+fn factor(method: u8, kind: u8) -> u8 {
+    let clay = kind == 6;
+    match method {
+        1 => 7 - u8::from(clay),
+        2 => 6,
+        _ => 8 - u8::from(clay),
+    }
+}
+
+/// A slice's share of the line, N per metre of perimeter.
+fn share(slice: &Slice) -> Fraction {
+    Fraction::new(i128::from(slice.friction), 200)
+        * metres(usize::from(slice.thickness))
+        * Fraction::new(i128::from(slice.factor), 10)
+}

@@ -1,0 +1,245 @@
+//! Every printed cell, and the known cases.
+
+#![forbid(unsafe_code)]
+
+use super::makers::{Lending, Site};
+use super::meter::Meter;
+use second::cases::{self, Known};
+use second::{printed, read_slice, Answer, Pile, Row, Slice, TABLE};
+
+fn lend(site: &Site) -> Lending {
+    Lending {
+        log: site.log(),
+        pile: site.pile(),
+        table: vec![0xC3; TABLE],
+    }
+}
+
+fn row(thickness: u32, kind: u8, index: u8) -> Row {
+    Row {
+        thickness: thickness as u16,
+        kind,
+        index,
+        saturation: 95,
+        zero: 0,
+    }
+}
+
+/// A square pile of one metre, whose tip force is its tip resistance.
+fn square(head: u32, tip: u32) -> Pile {
+    Pile {
+        section: 2,
+        a: 1_000,
+        b: 1_000,
+        method: 2,
+        head: head as u16,
+        tip: tip as u16,
+        ..Pile::default()
+    }
+}
+
+/// An index such as `0.3` as stored.
+fn stored(word: &str) -> u8 {
+    let hundredths: u8 = format!("{word}0")
+        .replace('.', "")
+        .parse()
+        .expect("an index");
+    100 + hundredths
+}
+
+/// Every cell of the friction table stands in the first slice of a calculation.
+pub fn friction_cells(meter: &mut Meter) {
+    meter.group("cells of table 7.3");
+    let heads = printed::words(printed::FRICTION_HEAD);
+    let mut cells = 0;
+    for line in printed::FRICTION {
+        let words = printed::words(line);
+        let depth = 1_000 * words[0].parse::<u32>().expect("a depth");
+        for (column, word) in words.iter().enumerate().skip(1) {
+            let kilopascals: u32 = word.parse().expect("a cell");
+            // The soil of the cell, and its sand if it has one.
+            let mut soils = vec![(4 + (column % 3) as u8, stored(heads[column]))];
+            if column <= 3 {
+                soils.push((column as u8, 100));
+            }
+            for (kind, index) in soils {
+                let upper = row(depth + 1_000, kind, index);
+                let lower = row(2_000 + 5_000, 6, if depth < 15_000 { 155 } else { 125 });
+                let site = Site {
+                    rows: vec![upper, lower],
+                    pile: square(depth - 1_000, depth + 3_000),
+                };
+                meter.case(format!("{depth} mm, column {}, kind {kind}", heads[column]));
+                let (_, answer, table) = meter.calculate(&lend(&site));
+                let first = read_slice(&table, 0);
+                meter.count(
+                    answer.refusal == 0 && first.friction == 200_000 * kilopascals,
+                    || format!("  not the printed {kilopascals} kPa: {answer:?} {first:?}"),
+                );
+            }
+            cells += 1;
+        }
+    }
+    meter.note(format!("{cells} cells"));
+}
+
+/// Every cell of the tip table is a calculation's tip resistance; a dash is refused.
+pub fn tip_cells(meter: &mut Meter) {
+    meter.group("cells of table 7.8");
+    let heads = printed::words(printed::TIP_HEAD);
+    let (mut cells, mut dashes) = (0, 0);
+    for line in printed::TIP {
+        let words = printed::words(line);
+        let tip = 1_000 * words[0].parse::<u32>().expect("a depth");
+        for (column, word) in words.iter().enumerate().skip(1) {
+            let index = stored(heads[column]);
+            let mut indexes = vec![index];
+            if index == 100 {
+                indexes.extend([0, 99]);
+            }
+            for index in indexes {
+                let kind = 4 + (column % 3) as u8;
+                let site = Site {
+                    rows: vec![row(tip + 5_000, kind, index)],
+                    pile: square(0, tip),
+                };
+                meter.case(format!("{tip} mm, stored index {index}"));
+                let (_, answer, _) = meter.calculate(&lend(&site));
+                let right = match word.parse::<u64>() {
+                    Ok(kilopascals) => answer.refusal == 0 && answer.tip == 1_000 * kilopascals,
+                    Err(_) => answer.refusal == 12,
+                };
+                meter.count(right, || {
+                    format!("  not the printed {word} kPa: {answer:?}")
+                });
+            }
+            match *word {
+                "-" => dashes += 1,
+                _ => cells += 1,
+            }
+        }
+    }
+    meter.note(format!("{cells} cells, {dashes} dashes"));
+}
+
+/// Slices whose middle lies on a depth of the friction table or just beside it, at
+/// every index; and the same for tips and the tip table.
+pub fn around_the_marks(meter: &mut Meter) {
+    meter.group("around the depths of both tables");
+    for line in printed::FRICTION {
+        let mark = 2_000 * printed::words(line)[0].parse::<u32>().expect("a depth");
+        for middle in mark - 3..=mark + 3 {
+            // Depths in half millimetres: an even middle is that of an even thickness.
+            let thicknesses = if middle % 2 == 0 {
+                [2, 2_000]
+            } else {
+                [1, 1_999]
+            };
+            for thickness in thicknesses {
+                if middle < thickness {
+                    continue;
+                }
+                let top = (middle - thickness) / 2;
+                for index in (0..=120).step_by(40).chain(121..=200) {
+                    let tip = (top + thickness + 2_000).max(3_000);
+                    let upper = row(top + thickness, 4 + index % 3, index);
+                    let lower = Row {
+                        saturation: 94,
+                        ..row(tip + 5_000 - (top + thickness), 6, 125)
+                    };
+                    let site = Site {
+                        rows: vec![upper, lower],
+                        pile: square(top, tip),
+                    };
+                    meter.case(format!("middle {middle} half mm, stored index {index}"));
+                    meter.calculate(&lend(&site));
+                }
+            }
+        }
+    }
+    for line in printed::TIP {
+        let mark = 1_000 * printed::words(line)[0].parse::<u32>().expect("a depth");
+        for tip in mark - 1..=mark + 1 {
+            for index in (0..=90).step_by(30).chain(98..=162) {
+                let site = Site {
+                    rows: vec![row(tip + 5_000, 4 + index % 3, index)],
+                    pile: square(tip / 2, tip),
+                };
+                meter.case(format!("tip {tip}, stored index {index}"));
+                meter.calculate(&lend(&site));
+            }
+        }
+    }
+}
+
+/// The cases A to L with their printed numbers.
+pub fn known_cases(meter: &mut Meter) {
+    meter.group("cases A to L");
+    for case in cases::all() {
+        meter.case(format!("case {}", case.name));
+        let lent = Lending {
+            log: case.log.to_vec(),
+            pile: case.pile.to_vec(),
+            table: vec![0xC3; TABLE],
+        };
+        let (_, answer, table) = meter.calculate(&lent);
+        let expected = match case.known {
+            Known::Numbers([line, tip, shaft, capacity, uplift]) => Answer {
+                line,
+                tip,
+                shaft,
+                capacity,
+                uplift,
+                ..Answer::default()
+            },
+            Known::Refusal(refusal) => Answer {
+                refusal,
+                ..Answer::default()
+            },
+        };
+        meter.count(answer == expected, || {
+            format!("  not the known numbers {expected:?}: {answer:?}")
+        });
+        if let Some(kilopascals) = case.resistance {
+            let mut square_metre = second::read_pile(&case.pile);
+            (square_metre.section, square_metre.a, square_metre.b) = (2, 1_000, 1_000);
+            let pile = second::pile_bytes(&square_metre).to_vec();
+            let (_, answer, _) = meter.calculate(&Lending { pile, ..lent });
+            meter.count(answer.tip == 1_000 * kilopascals, || {
+                format!("  not the known {kilopascals} kPa: {answer:?}")
+            });
+        }
+        if case.name == "A" {
+            slices_of_case_a(meter, &case, &table);
+        }
+    }
+}
+
+fn slices_of_case_a(meter: &mut Meter, case: &cases::Case, table: &[u8]) {
+    meter.count(
+        case.log[..6] == cases::LOG_A && case.log[6..].iter().all(|byte| *byte == 0),
+        || "  not the printed log".to_string(),
+    );
+    meter.count(case.pile == cases::PILE_A, || {
+        "  not the printed pile".to_string()
+    });
+    meter.count(table[..7] == cases::SLICE_A, || {
+        "  not the printed slice".to_string()
+    });
+    for place in 0..second::SLICES {
+        let expected = match cases::SLICES_A.get(place) {
+            Some(&(top, thickness, friction, factor)) => Slice {
+                refusal: 0,
+                top,
+                thickness,
+                friction,
+                factor,
+            },
+            None => Slice::default(),
+        };
+        let slice = meter.read_slice(table, place as u32);
+        meter.count(slice == expected, || {
+            format!("  not the printed slice {expected:?}: {slice:?}")
+        });
+    }
+}

@@ -1,0 +1,566 @@
+//! Makers of logs, piles and tables: good ones, borderline ones, damaged ones.
+
+#![forbid(unsafe_code)]
+
+use super::dice::Dice;
+use second::cases::log_of;
+use second::{pile_bytes, Pile, Row, LOG, PILE, ROWS, SLICE, SLICES, TABLE};
+
+/// A log's rows and a pile, their fields not yet packed.
+#[derive(Clone, Debug)]
+pub struct Site {
+    pub rows: Vec<Row>,
+    pub pile: Pile,
+}
+
+impl Site {
+    pub fn log(&self) -> Vec<u8> {
+        log_of(&self.rows).to_vec()
+    }
+
+    pub fn pile(&self) -> Vec<u8> {
+        pile_bytes(&self.pile).to_vec()
+    }
+}
+
+/// Values around which the rules change.
+const INDEXES: [u8; 26] = [
+    0, 1, 50, 99, 100, 101, 109, 110, 111, 119, 120, 121, 129, 130, 135, 139, 140, 141, 145, 150,
+    159, 160, 161, 170, 199, 200,
+];
+const SATURATIONS: [u8; 9] = [0, 1, 50, 80, 89, 90, 91, 99, 100];
+const TIPS: [u32; 17] = [
+    3_000, 3_001, 4_999, 5_000, 7_000, 10_000, 12_000, 15_000, 18_000, 19_999, 20_000, 20_001,
+    25_000, 30_000, 30_001, 39_999, 40_000,
+];
+
+fn soil(dice: &mut Dice, kind: u8) -> Row {
+    let index = match kind {
+        1..=3 => 100,
+        _ if dice.once_in(2) => dice.one_of(&INDEXES),
+        _ => dice.between(0, 200) as u8,
+    };
+    let saturation = if dice.once_in(2) {
+        dice.one_of(&SATURATIONS)
+    } else {
+        dice.between(0, 100) as u8
+    };
+    Row {
+        thickness: 1,
+        kind,
+        index,
+        saturation,
+        zero: 0,
+    }
+}
+
+fn any_soil(dice: &mut Dice) -> Row {
+    let kind = dice.between(1, 6) as u8;
+    soil(dice, kind)
+}
+
+/// A soil in which a tip may stand.
+fn tip_soil(dice: &mut Dice, tip: u32) -> Row {
+    let kind = dice.between(4, 6) as u8;
+    let mut row = soil(dice, kind);
+    let highest = if tip > 20_000 { 140 } else { 160 };
+    while row.index > highest {
+        row.index = if dice.once_in(3) {
+            highest
+        } else {
+            dice.between(0, u32::from(highest)) as u8
+        };
+    }
+    row
+}
+
+/// A soil that follows another: any, the very same, or the same but for one field.
+fn next_soil(dice: &mut Dice, before: Option<Row>) -> Row {
+    let fresh = any_soil(dice);
+    let before = match before {
+        Some(before) => before,
+        None => return fresh,
+    };
+    match dice.below(12) {
+        0 | 1 => before,
+        2 => Row {
+            saturation: fresh.saturation,
+            ..before
+        },
+        3 if before.kind >= 4 => Row {
+            index: dice.between(0, 200) as u8,
+            ..before
+        },
+        4 if before.kind >= 4 => Row {
+            kind: dice.between(4, 6) as u8,
+            ..before
+        },
+        5 if before.kind <= 3 => Row {
+            kind: dice.between(1, 3) as u8,
+            ..before
+        },
+        _ => fresh,
+    }
+}
+
+/// Rows that fill a depth, not more of them than there is room for.
+fn layers(dice: &mut Dice, depth: u32, room: usize) -> Vec<Row> {
+    let style = dice.below(6);
+    let palette = [any_soil(dice), any_soil(dice)];
+    let mut rows: Vec<Row> = Vec::new();
+    let mut left = depth;
+    while left > 0 {
+        let thickness = match style {
+            _ if rows.len() + 1 >= room => left,
+            0 | 1 => dice.between(100, 6_000),
+            2 => dice.between(1, 50),
+            3 => dice.one_of(&[1, 1_999, 2_000, 2_001, 3_999, 4_000, 4_001]),
+            4 => dice.one_of(&[1, 2_001]),
+            _ => dice.between(1, depth),
+        };
+        let thickness = thickness.min(left);
+        let kept = match style {
+            1 => dice.one_of(&palette),
+            _ => next_soil(dice, rows.last().copied()),
+        };
+        rows.push(Row {
+            thickness: thickness as u16,
+            ..kept
+        });
+        left -= thickness;
+    }
+    rows
+}
+
+/// Cuts rows in two, up to the wanted number; the ground stays the same.
+fn cut(dice: &mut Dice, rows: &mut Vec<Row>, wanted: usize) {
+    let mut tries = 4 * ROWS;
+    while rows.len() < wanted && tries > 0 {
+        tries -= 1;
+        let place = dice.below(rows.len() as u32) as usize;
+        let thickness = u32::from(rows[place].thickness);
+        if thickness < 2 {
+            continue;
+        }
+        let upper = match dice.below(4) {
+            0 => 1,
+            1 => thickness - 1,
+            _ => dice.between(1, thickness - 1),
+        };
+        let mut lower = rows[place];
+        lower.thickness = (thickness - upper) as u16;
+        rows[place].thickness = upper as u16;
+        rows.insert(place + 1, lower);
+    }
+}
+
+fn section(dice: &mut Dice, pile: &mut Pile) {
+    if dice.once_in(2) {
+        pile.section = 1;
+        pile.a = match dice.below(4) {
+            0 => dice.one_of(&[150, 151, 600, 1_999, 2_000]),
+            _ => dice.between(150, 2_000) as u16,
+        };
+        pile.b = 0;
+    } else {
+        pile.section = 2;
+        for side in [&mut pile.a, &mut pile.b] {
+            *side = match dice.below(4) {
+                0 => dice.one_of(&[300, 301, 1_000, 1_999, 2_000, 2_001, 3_999, 4_000]),
+                1 => dice.between(300, 4_000) as u16,
+                _ => dice.between(300, 2_500) as u16,
+            };
+        }
+    }
+}
+
+/// The seven or so ways a head may stand to its tip.
+fn head(dice: &mut Dice, tip: u32, seat_top: u32) -> u16 {
+    let head = match dice.below(12) {
+        0 => 0,
+        1 => 1,
+        2 => tip.saturating_sub(4_000),
+        3 => tip.saturating_sub(3_999),
+        4 => tip.saturating_sub(4_001),
+        5 => seat_top,
+        6 => seat_top + 1,
+        7 => dice.between(0, tip - 1),
+        _ => dice.between(0, seat_top),
+    };
+    head.min(tip - 1) as u16
+}
+
+/// A site that is mostly accepted.
+pub fn good(dice: &mut Dice) -> Site {
+    if dice.once_in(24) {
+        return fullest(dice);
+    }
+    let tip = if dice.once_in(3) {
+        dice.one_of(&TIPS)
+    } else {
+        dice.between(3_000, 40_000)
+    };
+    let mut pile = Pile {
+        method: dice.between(1, 3) as u8,
+        tip: tip as u16,
+        ..Pile::default()
+    };
+    section(dice, &mut pile);
+    let least = u32::from(pile.a.max(pile.b)).max(2_000);
+    let seat = match dice.below(8) {
+        0 | 1 => least,
+        2 => least + 1,
+        3 if dice.once_in(4) => least - 1,
+        4 => tip,
+        _ => dice.between(least, least.max(tip.min(12_000))),
+    }
+    .min(tip);
+    let top = tip - seat;
+    let depth = match dice.below(8) {
+        0 => tip + 5_000,
+        1 => tip + 5_001,
+        2 if dice.once_in(4) => tip + 4_999,
+        3 => 60_000,
+        _ => dice.between(tip + 5_000, 60_000.min(tip + 12_000)),
+    };
+    let under = match dice.below(4) {
+        0 => tip + 1,
+        1 => dice.between(tip + 1, depth),
+        _ => depth,
+    };
+
+    let room = if dice.once_in(3) {
+        62
+    } else {
+        dice.between(1, 12) as usize
+    };
+    let mut rows = layers(dice, top, room);
+    rows.push(Row {
+        thickness: (under - top) as u16,
+        ..tip_soil(dice, tip)
+    });
+    if under < depth {
+        let room = (ROWS - rows.len()).min(4);
+        rows.extend(layers(dice, depth - under, room));
+    }
+    match dice.below(4) {
+        0 => cut(dice, &mut rows, ROWS),
+        1 => {
+            let wanted = dice.between(2, 64) as usize;
+            cut(dice, &mut rows, wanted);
+        }
+        _ => {}
+    }
+    pile.head = head(dice, tip, top);
+    Site { rows, pile }
+}
+
+/// As many strata and slices as there can be, or nearly.
+fn fullest(dice: &mut Dice) -> Site {
+    let mut thick = [false; 63];
+    thick[..18].fill(true);
+    for place in (1..63).rev() {
+        thick.swap(place, dice.below(place as u32 + 1) as usize);
+    }
+    let mut rows = Vec::new();
+    for (place, thick) in thick.into_iter().enumerate() {
+        let kind = 1 + ((place as u32 + dice.below(5)) % 6) as u8;
+        let mut row = soil(dice, kind);
+        row.thickness = if thick { 2_001 } else { 1 };
+        row.saturation = place as u8;
+        rows.push(row);
+    }
+    let tip = 18 * 2_001 + 45 + 2_001;
+    rows.push(Row {
+        thickness: 2_001 + 5_000 + dice.below(3) as u16,
+        saturation: dice.one_of(&[89, 90, 95]),
+        ..tip_soil(dice, tip)
+    });
+    let mut pile = Pile {
+        section: 1,
+        a: dice.between(150, 2_000) as u16,
+        method: dice.between(1, 3) as u8,
+        tip: tip as u16,
+        ..Pile::default()
+    };
+    if dice.once_in(4) {
+        pile.head = dice.below(3) as u16;
+    }
+    if dice.once_in(4) {
+        pile.tip = pile.tip - 1 + dice.below(3) as u16;
+    }
+    Site { rows, pile }
+}
+
+/// Rows and a pile whose fields are all in range, and nothing more.
+pub fn loose(dice: &mut Dice) -> Site {
+    let count = match dice.below(3) {
+        0 => dice.between(1, 6),
+        1 => dice.between(1, 64),
+        _ => dice.one_of(&[1, 2, 63, 64]),
+    };
+    let most = (dice.between(40_000, 80_000) / count * 2).clamp(1, 60_000);
+    let mut rows: Vec<Row> = Vec::new();
+    for _ in 0..count {
+        let row = next_soil(dice, rows.last().copied());
+        rows.push(Row {
+            thickness: dice.between(1, most) as u16,
+            ..row
+        });
+    }
+    let tip = dice.between(2_900, 40_100);
+    let mut pile = Pile {
+        method: dice.between(1, 3) as u8,
+        head: dice.between(0, tip) as u16,
+        tip: tip as u16,
+        ..Pile::default()
+    };
+    section(dice, &mut pile);
+    Site { rows, pile }
+}
+
+/// Moves one value of a site to, or just over, one of its limits.
+pub fn disturb(dice: &mut Dice, site: &mut Site) {
+    let depth: u32 = site.rows.iter().map(|row| u32::from(row.thickness)).sum();
+    let tip = u32::from(site.pile.tip);
+    let place = dice.below(site.rows.len() as u32) as usize;
+    let holder = holding(&site.rows, tip);
+    match dice.below(22) {
+        0 => site.pile.tip = dice.one_of(&[0, 2_999, 3_000, 40_000, 40_001, 65_535]),
+        1 => site.pile.tip = (tip as u16).wrapping_sub(1 - dice.below(3) as u16 % 3),
+        2 => {
+            let ends = depth.saturating_sub(dice.between(4_999, 5_001));
+            site.pile.tip = ends.min(65_535) as u16;
+        }
+        3 => {
+            site.pile.head = (tip as u16)
+                .wrapping_add(dice.below(3) as u16)
+                .wrapping_sub(1)
+        }
+        4 => site.pile.head = dice.one_of(&[0, 1, 65_535]),
+        5 => site.pile.section = dice.one_of(&[0, 3]),
+        6 => {
+            site.pile.section = 1;
+            site.pile.a = dice.one_of(&[0, 149, 150, 2_000, 2_001, 4_095]);
+            site.pile.b = dice.one_of(&[0, 0, 0, 1, 300, 4_095]);
+        }
+        7 => {
+            site.pile.section = 2;
+            site.pile.a = dice.one_of(&[0, 299, 300, 600, 4_000, 4_001, 4_095]);
+            site.pile.b = dice.one_of(&[0, 299, 300, 600, 4_000, 4_001, 4_095]);
+        }
+        8 => site.pile.method = 0,
+        9 => site.pile.zero = dice.between(1, 15) as u8,
+        10 => {
+            site.rows[place].thickness = dice.one_of(&[0, 1, 60_000, 60_001, 65_535, 2_000, 2_001]);
+        }
+        11 => site.rows[place].kind = dice.one_of(&[0, 1, 3, 4, 6, 7]),
+        12 => site.rows[place].index = dice.one_of(&[0, 99, 100, 101, 199, 200, 201, 255]),
+        13 => site.rows[place].saturation = dice.one_of(&[0, 89, 90, 100, 101, 127]),
+        14 => site.rows[place].zero = dice.one_of(&[1, 2, 32, 63]),
+        15 => {
+            // The depth to just 60,000, or one more.
+            let last = site.rows.len() - 1;
+            let rest = depth - u32::from(site.rows[last].thickness);
+            let wanted = dice.between(60_000, 60_001);
+            site.rows[last].thickness = wanted.saturating_sub(rest).min(65_535) as u16;
+        }
+        16 | 17 => {
+            if let Some(holder) = holder {
+                recolour(&mut site.rows, holder, |row| {
+                    if row.kind >= 4 {
+                        row.index = [159, 160, 161, 140, 141, 200][usize::from(row.saturation) % 6];
+                    }
+                });
+            }
+        }
+        18 => {
+            if let Some(holder) = holder {
+                let saturation = dice.one_of(&[89, 90]);
+                recolour(&mut site.rows, holder, |row| row.saturation = saturation);
+            }
+        }
+        19 => {
+            if let Some(holder) = holder {
+                let kind = dice.between(1, 3) as u8;
+                recolour(&mut site.rows, holder, |row| {
+                    row.kind = kind;
+                    row.index = 100;
+                });
+            }
+        }
+        20 => {
+            // The tip to a row's end, or 2,000 or the longer side below it, give or take one.
+            let ends: u32 = site.rows[..=place]
+                .iter()
+                .map(|row| u32::from(row.thickness))
+                .sum();
+            let side = u32::from(site.pile.a.max(site.pile.b));
+            let seat = dice.one_of(&[0, 2_000, side]);
+            site.pile.tip = (ends + seat + dice.below(3)).saturating_sub(1).min(65_535) as u16;
+        }
+        _ => {
+            if let Some(first) = site.rows.first().copied() {
+                let place = place.max(1).min(site.rows.len() - 1);
+                site.rows[place].kind = first.kind;
+                site.rows[place].index = first.index;
+                site.rows[place].saturation = first.saturation;
+            }
+        }
+    }
+}
+
+/// The row with the millimetre just below a depth.
+fn holding(rows: &[Row], depth: u32) -> Option<usize> {
+    let mut bottom = 0;
+    rows.iter().position(|row| {
+        bottom += u32::from(row.thickness);
+        depth < bottom
+    })
+}
+
+/// Changes the soil of a row and of all rows joined to it by the same soil.
+fn recolour(rows: &mut [Row], place: usize, change: impl Fn(&mut Row)) {
+    let soil = |row: &Row| (row.kind, row.index, row.saturation);
+    let was = soil(&rows[place]);
+    let mut from = place;
+    while from > 0 && soil(&rows[from - 1]) == was {
+        from -= 1;
+    }
+    for row in rows[from..].iter_mut().take_while(|row| soil(row) == was) {
+        change(row);
+    }
+}
+
+/// What is lent to a call.
+#[derive(Clone, Debug)]
+pub struct Lending {
+    pub log: Vec<u8>,
+    pub pile: Vec<u8>,
+    pub table: Vec<u8>,
+}
+
+/// Spoils what is lent: lengths, bits, bytes.
+pub fn damage(dice: &mut Dice, lent: &mut Lending) {
+    match dice.below(12) {
+        0 => resize(dice, &mut lent.log, LOG),
+        1 => resize(dice, &mut lent.pile, PILE),
+        2 => resize(dice, &mut lent.table, TABLE),
+        3 | 4 => flip(dice, &mut lent.log),
+        5 | 6 => flip(dice, &mut lent.pile),
+        7 => {
+            let len = lent.log.len();
+            lent.log = dice.bytes(len);
+            if len > 0 && dice.once_in(2) {
+                lent.log[0] = 64;
+            }
+        }
+        8 => {
+            let len = lent.pile.len();
+            lent.pile = dice.bytes(len);
+        }
+        9 => {
+            if let Some(count) = lent.log.first_mut() {
+                *count = match dice.below(4) {
+                    0 => dice.one_of(&[0, 64, 65, 128, 255]),
+                    1 => count.wrapping_add(1),
+                    2 => count.wrapping_sub(1),
+                    _ => dice.byte(),
+                };
+            }
+        }
+        10 => {
+            // An unused place that is not zero.
+            let used = 1 + 5 * usize::from(lent.log.first().copied().unwrap_or(0));
+            if used < lent.log.len() {
+                let place = dice.between(used as u32, lent.log.len() as u32 - 1) as usize;
+                lent.log[place] = dice.byte() | 1;
+            }
+        }
+        _ => {
+            // One used byte anew.
+            let used = 1 + 5 * usize::from(lent.log.first().copied().unwrap_or(0)).min(64);
+            if used <= lent.log.len() {
+                let place = dice.below(used as u32) as usize;
+                lent.log[place] = dice.byte();
+            }
+        }
+    }
+}
+
+fn resize(dice: &mut Dice, piece: &mut Vec<u8>, right: usize) {
+    let len = match dice.below(4) {
+        0 => right - 1,
+        1 => right + 1,
+        2 => dice.one_of(&[
+            0,
+            1,
+            5,
+            7,
+            8,
+            9,
+            256,
+            320,
+            321,
+            322,
+            329,
+            580,
+            581,
+            582,
+            65_536 + 321,
+        ]),
+        _ => dice.below(401) as usize,
+    };
+    piece.resize(len, 0);
+}
+
+fn flip(dice: &mut Dice, piece: &mut [u8]) {
+    if piece.is_empty() {
+        return;
+    }
+    for _ in 0..dice.between(1, 3) {
+        let place = dice.below(piece.len() as u32) as usize;
+        piece[place] ^= 1 << dice.below(8);
+    }
+}
+
+/// A table to lend: empty, full, random, or the right one with or without a spot.
+pub fn table(dice: &mut Dice, right: impl FnOnce() -> Vec<u8>) -> Vec<u8> {
+    match dice.below(10) {
+        0 => vec![0; TABLE],
+        1 => vec![0xFF; TABLE],
+        2 => dice.bytes(TABLE),
+        _ => {
+            let mut table = right();
+            spot(dice, &mut table);
+            table
+        }
+    }
+}
+
+/// Leaves a table as it is, or spoils a part of it.
+pub fn spot(dice: &mut Dice, table: &mut [u8]) {
+    if table.len() != TABLE {
+        return;
+    }
+    let used = table
+        .chunks(SLICE)
+        .filter(|slice| slice.iter().any(|byte| *byte != 0))
+        .count();
+    let near = dice.below(used.max(1) as u32 + 1) as usize;
+    let from = near.min(SLICES - 1) * SLICE;
+    match dice.below(8) {
+        0 => {
+            let place = from + dice.below(SLICE as u32) as usize;
+            table[place] ^= 1 << dice.below(8);
+        }
+        1 => dice.fill(&mut table[from..]),
+        2 => table[from..].fill(0),
+        3 => {
+            // Right slices, but one place further down.
+            table.copy_within(from..TABLE - SLICE, from + SLICE);
+        }
+        4 => table[from + SLICE - 1] ^= 1,
+        _ => {}
+    }
+}

@@ -1,0 +1,555 @@
+//! The rules one by one.
+
+#![forbid(unsafe_code)]
+
+use crate::cases::{self, log_of, Known};
+use crate::*;
+
+fn row(thickness: u16, kind: u8, index: u8, saturation: u8) -> Row {
+    Row {
+        thickness,
+        kind,
+        index,
+        saturation,
+        zero: 0,
+    }
+}
+
+fn circle(head: u16, tip: u16) -> Pile {
+    Pile {
+        section: 1,
+        a: 600,
+        method: 1,
+        head,
+        tip,
+        ..Pile::default()
+    }
+}
+
+fn run(rows: &[Row], pile: Pile) -> (Answer, Vec<u8>) {
+    let mut table = vec![0x5A; TABLE];
+    let answer = calculate(&log_of(rows), &pile_bytes(&pile), &mut table);
+    (answer, table)
+}
+
+/// Refusal, row and field; a refused calculation gives no numbers and leaves or empties the table.
+fn refused(rows: &[Row], pile: Pile) -> (u32, u32, u32) {
+    let (answer, table) = run(rows, pile);
+    let Answer {
+        refusal,
+        row,
+        field,
+        ..
+    } = answer;
+    if refusal != 0 {
+        let bare = Answer {
+            refusal,
+            row,
+            field,
+            ..Answer::default()
+        };
+        assert_eq!(answer, bare);
+        let left = if refusal <= 4 { 0x5A } else { 0 };
+        assert!(table.iter().all(|byte| *byte == left));
+    }
+    (refusal, row, field)
+}
+
+#[test]
+fn known_cases() {
+    for case in cases::all() {
+        let mut table = vec![0xFF; TABLE];
+        let answer = calculate(&case.log, &case.pile, &mut table);
+        let numbers = [
+            answer.line,
+            answer.tip,
+            answer.shaft,
+            answer.capacity,
+            answer.uplift,
+        ];
+        match case.known {
+            Known::Numbers(known) => {
+                assert_eq!(answer.refusal, 0, "case {}", case.name);
+                assert_eq!(numbers, known, "case {}", case.name);
+            }
+            Known::Refusal(number) => {
+                assert_eq!(answer.refusal, number, "case {}", case.name);
+                assert_eq!(numbers, [0; 5], "case {}", case.name);
+                assert!(table.iter().all(|byte| *byte == 0), "case {}", case.name);
+            }
+        }
+        assert_eq!((answer.row, answer.field, answer.kept), (0, 0, 0));
+        if let Some(kilopascals) = case.resistance {
+            let mut pile = read_pile(&case.pile);
+            (pile.section, pile.a, pile.b) = (2, 1_000, 1_000);
+            let square = calculate(&case.log, &pile_bytes(&pile), &mut table);
+            assert_eq!(square.tip, kilopascals * 1_000, "case {}", case.name);
+        }
+    }
+}
+
+#[test]
+fn bytes_and_slices_of_case_a() {
+    let a = &cases::all()[0];
+    assert_eq!(a.log[..6], cases::LOG_A);
+    assert!(a.log[6..].iter().all(|byte| *byte == 0));
+    assert_eq!(a.pile, cases::PILE_A);
+    let mut table = vec![0xFF; TABLE];
+    calculate(&a.log, &a.pile, &mut table);
+    assert_eq!(table[..7], cases::SLICE_A);
+    for (place, (top, thickness, friction, factor)) in cases::SLICES_A.into_iter().enumerate() {
+        let expected = Slice {
+            refusal: 0,
+            top,
+            thickness,
+            friction,
+            factor,
+        };
+        assert_eq!(read_slice(&table, place as u32), expected);
+        assert_eq!(table[place * 7..place * 7 + 7], slice_bytes(&expected));
+    }
+    assert!(table[35..].iter().all(|byte| *byte == 0));
+    for place in [5, 82, 83, u32::MAX] {
+        assert_eq!(read_slice(&table, place), Slice::default());
+    }
+    assert_eq!(read_slice(&table[1..], 0).refusal, 1);
+}
+
+#[test]
+fn full_table() {
+    let (log, pile) = full();
+    let mut table = vec![0; TABLE];
+    let answer = calculate(&log, &pile_bytes(&pile), &mut table);
+    assert_eq!(answer.refusal, 0);
+    assert!(read_slice(&table, 82).thickness > 0);
+    let sum: u32 = (0..83)
+        .map(|place| u32::from(read_slice(&table, place).thickness))
+        .sum();
+    assert_eq!(sum, 38_064);
+}
+
+/// 64 strata and 83 slices.
+fn full() -> ([u8; LOG], Pile) {
+    let mut rows = Vec::new();
+    for place in 0..63_u8 {
+        let thickness = if place < 18 { 2_001 } else { 1 };
+        rows.push(row(thickness, 4 + place % 2, 110 + place % 7, 95));
+    }
+    rows.push(row(2_001 + 5_000, 6, 130, 95));
+    let tip = 18 * 2_001 + 45 + 2_001;
+    assert_eq!(tip, 38_064);
+    (log_of(&rows), circle(0, tip))
+}
+
+#[test]
+fn log_checks() {
+    let good = row(20_000, 6, 130, 95);
+    let pile = circle(1_000, 10_000);
+    assert_eq!(refused(&[good], pile), (0, 0, 0));
+    assert_eq!(
+        refused(
+            &[
+                good,
+                Row {
+                    thickness: 0,
+                    ..good
+                }
+            ],
+            pile
+        ),
+        (3, 2, 1)
+    );
+    assert_eq!(
+        refused(
+            &[
+                good,
+                Row {
+                    thickness: 60_001,
+                    ..good
+                }
+            ],
+            pile
+        ),
+        (3, 2, 1)
+    );
+    assert_eq!(refused(&[Row { kind: 0, ..good }], pile), (3, 1, 2));
+    assert_eq!(
+        refused(
+            &[Row {
+                kind: 7,
+                index: 255,
+                ..good
+            }],
+            pile
+        ),
+        (3, 1, 2)
+    );
+    assert_eq!(
+        refused(&[good, row(1, 1, 101, 0), row(0, 1, 1, 0)], pile),
+        (3, 2, 3)
+    );
+    assert_eq!(refused(&[row(1, 3, 99, 127)], pile), (3, 1, 3));
+    assert_eq!(refused(&[row(1, 4, 201, 127)], pile), (3, 1, 3));
+    assert_eq!(refused(&[row(1, 5, 200, 101)], pile), (3, 1, 4));
+    assert_eq!(refused(&[Row { zero: 1, ..good }], pile), (3, 1, 5));
+    assert_eq!(
+        refused(&[good, good, row(20_001, 6, 130, 95)], pile),
+        (4, 0, 0)
+    );
+    assert_eq!(refused(&[good, good, good], pile), (0, 0, 0));
+
+    let packed = pile_bytes(&pile);
+    let mut table = vec![7; TABLE];
+    let mut log = log_of(&[Row { kind: 0, ..good }]);
+    log[320] = 1;
+    assert_eq!(calculate(&log, &packed, &mut table).refusal, 2);
+    for count in [0, 65, 255] {
+        log[0] = count;
+        assert_eq!(calculate(&log, &packed, &mut table).refusal, 2);
+    }
+    assert_eq!(calculate(&log[1..], &packed, &mut table).refusal, 1);
+    assert_eq!(calculate(&log, &packed[1..], &mut table).refusal, 1);
+    assert_eq!(calculate(&log, &packed, &mut table[1..]).refusal, 1);
+    assert!(table.iter().all(|byte| *byte == 7));
+}
+
+#[test]
+fn pile_checks() {
+    let ground = [row(60_000, 6, 130, 95)];
+    let good = circle(1_000, 10_000);
+    let square = Pile {
+        section: 2,
+        a: 300,
+        b: 4_000,
+        ..good
+    };
+    assert_eq!(refused(&ground, good), (0, 0, 0));
+    assert_eq!(refused(&ground, square), (0, 0, 0));
+    assert_eq!(
+        refused(
+            &ground,
+            Pile {
+                section: 0,
+                a: 0,
+                ..good
+            }
+        ),
+        (5, 0, 1)
+    );
+    assert_eq!(refused(&ground, Pile { section: 3, ..good }), (5, 0, 1));
+    assert_eq!(
+        refused(
+            &ground,
+            Pile {
+                a: 149,
+                b: 1,
+                ..good
+            }
+        ),
+        (5, 0, 2)
+    );
+    assert_eq!(refused(&ground, Pile { a: 2_001, ..good }), (5, 0, 2));
+    assert_eq!(
+        refused(
+            &ground,
+            Pile {
+                b: 1,
+                zero: 1,
+                ..good
+            }
+        ),
+        (5, 0, 3)
+    );
+    assert_eq!(refused(&ground, Pile { a: 299, ..square }), (5, 0, 2));
+    assert_eq!(refused(&ground, Pile { a: 4_001, ..square }), (5, 0, 2));
+    assert_eq!(refused(&ground, Pile { b: 299, ..square }), (5, 0, 3));
+    assert_eq!(refused(&ground, Pile { b: 4_001, ..square }), (5, 0, 3));
+    assert_eq!(
+        refused(
+            &ground,
+            Pile {
+                zero: 8,
+                method: 0,
+                ..good
+            }
+        ),
+        (5, 0, 4)
+    );
+    assert_eq!(
+        refused(
+            &ground,
+            Pile {
+                method: 0,
+                tip: 0,
+                ..good
+            }
+        ),
+        (6, 0, 0)
+    );
+    assert_eq!(refused(&ground, circle(3_000, 3_000)), (7, 0, 0));
+    assert_eq!(refused(&ground, circle(0, 2_999)), (7, 0, 0));
+    assert_eq!(refused(&ground, circle(0, 3_000)), (0, 0, 0));
+    assert_eq!(refused(&ground, circle(0, 40_000)), (0, 0, 0));
+    assert_eq!(refused(&ground, circle(0, 40_001)), (7, 0, 0));
+    assert_eq!(refused(&ground, circle(8_000, 10_000)), (0, 0, 0));
+    assert_eq!(refused(&ground, circle(8_001, 10_000)), (10, 0, 0));
+    assert_eq!(
+        refused(
+            &ground,
+            Pile {
+                head: 6_000,
+                ..square
+            }
+        ),
+        (0, 0, 0)
+    );
+    assert_eq!(
+        refused(
+            &ground,
+            Pile {
+                head: 6_001,
+                ..square
+            }
+        ),
+        (10, 0, 0)
+    );
+}
+
+#[test]
+fn ground_checks() {
+    let clay = row(10_000, 6, 130, 95);
+    let sand = row(10_000, 2, 100, 95);
+    assert_eq!(refused(&[clay, sand], circle(0, 10_000)), (9, 0, 0));
+    assert_eq!(refused(&[clay, sand], circle(0, 9_999)), (0, 0, 0));
+    assert_eq!(refused(&[sand, clay], circle(0, 10_000)), (10, 0, 0));
+    let deep = row(30_000, 6, 141, 95);
+    assert_eq!(refused(&[deep], circle(0, 20_000)), (0, 0, 0));
+    assert_eq!(refused(&[deep], circle(0, 20_001)), (12, 0, 0));
+    assert_eq!(
+        refused(&[row(30_000, 6, 140, 95)], circle(0, 20_001)),
+        (0, 0, 0)
+    );
+    assert_eq!(
+        refused(&[row(30_000, 6, 161, 95)], circle(0, 20_001)),
+        (11, 0, 0)
+    );
+    // Saturation alone parts strata.
+    assert_eq!(
+        refused(&[clay, row(10_000, 6, 130, 94)], circle(0, 11_999)),
+        (10, 0, 0)
+    );
+}
+
+#[test]
+fn factors() {
+    for (method, kind, tenths) in [
+        (1, 1, 7),
+        (1, 2, 7),
+        (1, 3, 7),
+        (1, 4, 7),
+        (1, 5, 7),
+        (1, 6, 6),
+        (2, 1, 6),
+        (2, 3, 6),
+        (2, 4, 6),
+        (2, 5, 6),
+        (2, 6, 6),
+        (3, 1, 8),
+        (3, 2, 8),
+        (3, 4, 8),
+        (3, 5, 8),
+        (3, 6, 7),
+    ] {
+        let rows = [row(2_000, kind, 100, 95), row(18_000, 6, 130, 95)];
+        let (_, table) = run(
+            &rows,
+            Pile {
+                method,
+                ..circle(0, 10_000)
+            },
+        );
+        assert_eq!(read_slice(&table, 0).factor, tenths);
+    }
+}
+
+#[test]
+fn uplift_by_length() {
+    let rows = [row(60_000, 6, 130, 95)];
+    let (short, _) = run(&rows, circle(6_001, 10_000));
+    let (long, _) = run(&rows, circle(6_000, 10_000));
+    assert_eq!(short.uplift, short.shaft * 6 / 10);
+    assert_eq!(long.uplift, long.shaft * 8 / 10);
+}
+
+#[test]
+fn reading_and_packing() {
+    let rows = [row(60_000, 6, 130, 95), row(60_000, 1, 100, 0)];
+    let packed = log_of(&rows);
+    let fields = read_log(&packed);
+    assert_eq!((fields.refusal, fields.count), (0, 2));
+    assert_eq!(fields.rows[..2], rows);
+    let mut out = [9; LOG];
+    assert_eq!(pack_log(&fields, &mut out), Answer::default());
+    assert_eq!(out, packed);
+
+    let mut bad = fields.clone();
+    bad.rows[63].zero = 64;
+    assert_eq!(pack_log(&bad, &mut out).refusal, 2);
+    bad.rows[63].zero = 0;
+    bad.rows[1].index = 255;
+    let answer = pack_log(&bad, &mut out);
+    assert_eq!((answer.refusal, answer.row, answer.field), (3, 2, 3));
+    assert_eq!(pack_log(&bad, &mut out[..320]).refusal, 1);
+    assert_eq!(out, packed);
+    assert_eq!(
+        read_log(&packed[..320]),
+        Log {
+            refusal: 1,
+            ..Log::default()
+        }
+    );
+
+    let pile = Pile {
+        head: 65_535,
+        tip: 0,
+        ..circle(0, 0)
+    };
+    let bytes = pile_bytes(&pile);
+    assert_eq!(read_pile(&bytes), pile);
+    let mut out = [9; PILE];
+    assert_eq!(pack_pile(&pile, &mut out), Answer::default());
+    assert_eq!(out, bytes);
+    assert_eq!(pack_pile(&Pile { method: 4, ..pile }, &mut out).refusal, 6);
+    assert_eq!(pack_pile(&Pile { section: 5, ..pile }, &mut out).field, 1);
+    assert_eq!(pack_pile(&Pile { zero: 16, ..pile }, &mut out).field, 4);
+    assert_eq!(pack_pile(&Pile { b: 4_096, ..pile }, &mut out).field, 3);
+    assert_eq!(pack_pile(&pile, &mut out[..7]).refusal, 1);
+    assert_eq!(out, bytes);
+    assert_eq!(
+        read_pile(&bytes[..7]),
+        Pile {
+            refusal: 1,
+            ..Pile::default()
+        }
+    );
+}
+
+struct Desk {
+    log: Vec<u8>,
+    pile: [u8; PILE],
+    table: Vec<u8>,
+}
+
+impl Desk {
+    fn new(rows: &[Row], pile: Pile) -> Desk {
+        let mut desk = Desk {
+            log: log_of(rows).to_vec(),
+            pile: pile_bytes(&pile),
+            table: vec![0; TABLE],
+        };
+        calculate(&desk.log, &desk.pile, &mut desk.table);
+        desk
+    }
+
+    fn edit(&mut self, kind: u32, k: u32, x: u32, row: &[u8]) -> Answer {
+        edit(&mut self.log, &self.pile, &mut self.table, kind, k, x, row)
+    }
+
+    /// Refused, and nothing is touched.
+    fn refuses(&mut self, kind: u32, k: u32, x: u32, row: &[u8]) -> (u32, u32, u32) {
+        let before = (self.log.clone(), self.table.clone());
+        let answer = self.edit(kind, k, x, row);
+        assert_eq!(before, (self.log.clone(), self.table.clone()));
+        (answer.refusal, answer.row, answer.field)
+    }
+}
+
+#[test]
+fn edits_change_log_and_table() {
+    let clay = row(10_000, 6, 130, 95);
+    let mut desk = Desk::new(&[clay, clay], circle(1_000, 10_000));
+    let known = [212_100, 268_605, 399_798, 668_403, 319_838];
+
+    // A split moves no millimetre: all five slices are kept.
+    let answer = desk.edit(4, 1, 4_000, &[]);
+    assert_eq!((answer.refusal, answer.kept), (0, 5));
+    assert_eq!(
+        [
+            answer.line,
+            answer.tip,
+            answer.shaft,
+            answer.capacity,
+            answer.uplift
+        ],
+        known
+    );
+    assert_eq!(
+        desk.log[..],
+        log_of(&[row(4_000, 6, 130, 95), row(6_000, 6, 130, 95), clay])
+    );
+
+    // Fine sand from above: case G.
+    let answer = desk.edit(1, 1, 9, &row_bytes(row(4_000, 2, 100, 95)));
+    assert_eq!((answer.refusal, answer.kept, answer.line), (0, 0, 221_150));
+    desk.table[14] ^= 1;
+    let answer = desk.edit(2, 4, 9, &row_bytes(row(1, 5, 0, 0)));
+    assert_eq!((answer.refusal, answer.kept, answer.line), (0, 2, 221_150));
+    let answer = desk.edit(3, 4, 9, &[1, 2]);
+    assert_eq!((answer.refusal, answer.kept, answer.line), (0, 5, 221_150));
+    assert_eq!(
+        desk.log[..],
+        log_of(&[row(4_000, 2, 100, 95), row(6_000, 6, 130, 95), clay])
+    );
+
+    // Too short a log is the held answer, and the table is empty.
+    let answer = desk.edit(3, 3, 0, &[]);
+    assert_eq!((answer.refusal, answer.kept, answer.line), (8, 0, 0));
+    assert!(desk.table.iter().all(|byte| *byte == 0));
+    assert_eq!(
+        desk.log[..],
+        log_of(&[row(4_000, 2, 100, 95), row(6_000, 6, 130, 95)])
+    );
+}
+
+#[test]
+fn edits_refused() {
+    let clay = row(10_000, 6, 130, 95);
+    let good = row_bytes(clay);
+    let bad = row_bytes(Row { kind: 7, ..clay });
+    let mut desk = Desk::new(&[clay, clay], circle(1_000, 10_000));
+    assert_eq!(desk.refuses(1, 9, 0, &good[1..]), (1, 0, 0));
+    assert_eq!(desk.refuses(2, 9, 0, &[]), (1, 0, 0));
+    for kind in [0, 5, 257, u32::MAX] {
+        assert_eq!(desk.refuses(kind, 1, 1, &[]), (13, 0, 0));
+    }
+    for k in [0, 3, 257, u32::MAX] {
+        assert_eq!(desk.refuses(1, k, 1, &bad), (13, 0, 0));
+        assert_eq!(desk.refuses(3, k, 1, &bad), (13, 0, 0));
+        assert_eq!(desk.refuses(4, k, 1, &bad), (13, 0, 0));
+    }
+    assert_eq!(desk.refuses(2, 4, 1, &bad), (13, 0, 0));
+    assert_eq!(desk.refuses(2, 3, 1, &bad), (3, 3, 2));
+    assert_eq!(desk.refuses(1, 2, 1, &bad), (3, 2, 2));
+    for x in [0, 10_000, 65_537, u32::MAX] {
+        assert_eq!(desk.refuses(4, 1, x, &[]), (13, 0, 0));
+    }
+    let long = row_bytes(row(50_001, 6, 130, 95));
+    assert_eq!(desk.refuses(1, 1, 0, &long), (4, 0, 0));
+    assert_eq!(desk.refuses(2, 1, 0, &long), (4, 0, 0));
+    desk.log[320] = 1;
+    assert_eq!(desk.refuses(9, 1, 0, &long), (2, 0, 0));
+    assert_eq!(desk.refuses(1, 1, 0, &long[1..]), (1, 0, 0));
+
+    let mut single = Desk::new(&[clay], circle(1_000, 5_000));
+    assert_eq!(single.refuses(3, 1, 0, &[]), (13, 0, 0));
+
+    let mut full = Desk::new(&[row(500, 6, 130, 95); 64], circle(1_000, 10_000));
+    assert_eq!(full.refuses(2, 65, 0, &bad), (14, 0, 0));
+    assert_eq!(full.refuses(2, 66, 0, &bad), (13, 0, 0));
+    assert_eq!(full.refuses(4, 1, 1, &bad), (14, 0, 0));
+    assert_eq!(full.refuses(4, 1, 500, &bad), (13, 0, 0));
+    assert_eq!(full.refuses(1, 64, 0, &bad), (3, 64, 2));
+    full.pile = [0; PILE];
+    assert_eq!(full.edit(3, 64, 0, &[]).refusal, 5);
+    assert_eq!(full.log[0], 63);
+}
