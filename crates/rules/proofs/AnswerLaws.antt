@@ -1,6 +1,6 @@
 -- The answer and the slices by rows are those by millimetres; only millimetres matter.
 use mathlib.Core.Path.{_≡_, refl, sym, _∙_, ap, ap₂}
-use mathlib.Core.Bool.{Bool, true, false}
+use mathlib.Core.Bool.{Bool, true, false, true≢false}
 use mathlib.Core.Logic.{_⊎_, inl, inr, ⊎-elim}
 use mathlib.Core.List.{List, [], _∷_}
 use Prim.Native.Nat.{ℕ, zero, suc, _+_, _-_, _<_, _≤_}
@@ -12,12 +12,13 @@ use Rattle.rules.specs.declared.Row.{Row}
 use Rattle.rules.specs.declared.Pile.{Pile}
 use Rattle.rules.specs.declared.Slice.{Slice}
 use Rattle.rules.specs.declared.Answer.{Answer}
+use Rattle.rules.specs.declared.Refusal.{Refusal}
 use Rattle.rules.specs.Base.{pick, either, refuses, first, when}
 use Rattle.rules.specs.Checks.{pileChecks, depthOf}
 use Rattle.rules.specs.Ground.{soilAt, Agree}
 use Rattle.rules.specs.Pieces.{Piece, pieces, runTop}
-use Rattle.rules.specs.Numbers.{slicesOf}
-use Rattle.rules.specs.Answers.{belowTip, depthsWrong, logShort, early, late, checksFrom, answerFrom, slicesFrom, answer, slices}
+use Rattle.rules.specs.Numbers.{slicesOf, resistance, lineOf}
+use Rattle.rules.specs.Answers.{belowTip, depthsWrong, logShort, early, late, checksFrom, refused, numbers, answerFrom, slicesFrom, answer, slices}
 use Rattle.rules.specs.Calculation.{answerOf, slicesOfRows}
 use Rattle.rules.specs.ByRows.{Positive, cuts, cutsOf, topAt, answerRows, slicesRows}
 use Rattle.rules.proofs.Basics.{sure}
@@ -87,3 +88,15 @@ only-millimetres rs ts p h = (
   ap₂ (λ (g : ℕ → Soil) (d : ℕ). answer g d p) (one-ground rs ts h) (h .0),
   ap₂ (λ (g : ℕ → Soil) (d : ℕ). slices g d p) (one-ground rs ts h) (h .0),
 )
+
+-- under 5 to 12 or 15 every number is zero, and no slice is held
+module _ (depth : ℕ) (at : Soil) (top : ℕ) (cut : List Slice) (p : Pile) where
+  refused-by : (t : Bool) (r : Refusal) (full : Answer) → refuses (full .refusal) ≡ false → t ≡ refuses r → refuses (pick t (refused r) full .refusal) ≡ true
+    → (pick t (refused r) full ≡ refused (pick t (refused r) full .refusal)) × (pick t [] cut ≡ [])
+  refused-by true r full f e h = (refl, refl)
+  refused-by false r full f e h = absurd (true≢false (sym h ∙ f))
+
+  pub refused-from : refuses (answerFrom depth at top cut p .refusal) ≡ true
+    → (answerFrom depth at top cut p ≡ refused (answerFrom depth at top cut p .refusal)) × (slicesFrom depth at top cut p ≡ [])
+  unfolding answerFrom slicesFrom numbers
+  refused-from h = let r : Refusal = checksFrom depth at top cut p in refused-by (refuses r) r (numbers at p (resistance p at) (lineOf cut)) refl refl h

@@ -1,0 +1,2 @@
+-- The promises.
+pub mod Promises
