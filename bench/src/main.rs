@@ -1,7 +1,6 @@
 //! Nanoseconds per call: the library through its C door beside a plain calculator
 //! of the same rules, by turns in the same process.
 
-#![cfg_attr(not(feature = "door"), forbid(unsafe_code))]
 #![deny(unsafe_code)]
 
 #[cfg(feature = "door")]
@@ -10,7 +9,6 @@ mod door;
 mod plain;
 
 use plain::{Answer, LOG, PILE, TABLE};
-use std::hint::black_box;
 use std::process::ExitCode;
 use std::time::Instant;
 
@@ -144,12 +142,9 @@ impl Desk {
     /// The next call of a scene: a calculation, or a boundary drawn one millimetre on.
     #[inline(always)]
     fn call(&mut self, scene: &Scene, by: &Calculator) -> Answer {
-        let Some((k, soil)) = scene.dragged else {
-            return (by.calculate)(
-                black_box(&self.log),
-                black_box(&scene.pile),
-                black_box(&mut self.table),
-            );
+        let (k, soil) = match scene.dragged {
+            Some(dragged) => dragged,
+            None => return (by.calculate)(&self.log, &scene.pile, &mut self.table),
         };
         // Up and down by 100 mm, starting at the thickness as it is; never deeper.
         let phase = self.step % 200;
@@ -157,13 +152,13 @@ impl Desk {
         self.step += 1;
         let row = row_bytes((soil.0 - less, soil.1, soil.2, soil.3));
         (by.edit)(
-            black_box(&mut self.log),
-            black_box(&scene.pile),
-            black_box(&mut self.table),
+            &mut self.log,
+            &scene.pile,
+            &mut self.table,
             1,
             k,
             0,
-            black_box(&row),
+            &row,
         )
     }
 }
@@ -203,15 +198,23 @@ fn same(scene: &Scene) -> bool {
     true
 }
 
+/// Calls through the calculator's own pointers, which nothing folds away.
+#[inline(never)]
+fn run(scene: &Scene, desk: &mut Desk, by: &Calculator, calls: u32) -> u64 {
+    let mut sum = 0_u64;
+    for _ in 0..calls {
+        sum = sum.wrapping_add(desk.call(scene, by).capacity);
+    }
+    sum
+}
+
 /// Best and median of many repeats, nanoseconds per call.
 struct Times(Vec<f64>);
 
 impl Times {
     fn add(&mut self, scene: &Scene, desk: &mut Desk, by: &Calculator, calls: u32) {
         let start = Instant::now();
-        for _ in 0..calls {
-            black_box(desk.call(scene, by));
-        }
+        run(scene, desk, by, calls);
         self.0
             .push(start.elapsed().as_nanos() as f64 / f64::from(calls));
     }
@@ -260,7 +263,30 @@ fn measure(scene: &Scene, repeats: u32, calls: u32) {
     println!();
 }
 
+/// `count SCENE library|plain CALLS`: just these calls, for a counter of instructions around the process.
+fn count(words: &[String]) -> ExitCode {
+    let scenes = scenes();
+    let scene = words.first().and_then(|n| n.parse::<usize>().ok()).and_then(|n| scenes.get(n));
+    let by = match words.get(1).map(String::as_str) {
+        Some("library") => LIBRARY,
+        Some("plain") => Some(PLAIN),
+        _ => None,
+    };
+    let calls = words.get(2).and_then(|n| n.parse::<u32>().ok());
+    match (scene, by, calls) {
+        (Some(scene), Some(by), Some(calls)) => {
+            println!("{} by {}: {}", scene.name, by.name, run(scene, &mut Desk::new(scene), &by, calls));
+            ExitCode::SUCCESS
+        }
+        _ => ExitCode::FAILURE,
+    }
+}
+
 fn main() -> ExitCode {
+    let words: Vec<String> = std::env::args().skip(1).collect();
+    if words.first().map(String::as_str) == Some("count") {
+        return count(&words[1..]);
+    }
     let scenes = scenes();
     if !scenes.iter().all(same) {
         return ExitCode::FAILURE;

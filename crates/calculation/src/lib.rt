@@ -115,7 +115,7 @@ pub fn checked_log(log: &[u8]) -> LogRead
 }
 
 // The table that was worked out into the lent one.
-pub fn put_table(table: &mut [u8], bytes: &[u8; TABLE_SIZE])
+fn put_table(table: &mut [u8], bytes: &[u8; TABLE_SIZE])
     requires { ⌜ (length (now table) ≡ tableSize) × (length (now bytes) ≡ tableSize) ⌝ }
     ensures { λ _. ⌜ now (table .exit) ≡ now (bytes .entry) ⌝ }
 {

@@ -69,7 +69,7 @@ fn uplift(pile: Pile, n: u64) -> u64
 }
 
 // The five numbers.
-pub fn five_numbers(soil: Soil, pile: Pile, r: u64, line: u64) -> Answer
+pub(crate) fn five_numbers(soil: Soil, pile: Pile, r: u64, line: u64) -> Answer
     requires { ⌜ Sides pile × (pile .head ≤ pile .tip) × (r ≤ 4500000) × (line ≤ 3200000) ⌝ }
     ensures { λ n. ⌜ n ≡ answers.numbers soil pile r line ⌝ }
 {

@@ -90,7 +90,7 @@ fn is_dash(read: TipRead) -> bool
 }
 
 // Checks 9 to 12, by the tip's soil, the top of its stratum and what the tip table is read to: the number of the first that refuses, or 0.
-pub fn tip_refusal(pile: Pile, soil: Soil, top: u64, read: TipRead) -> u32
+pub(crate) fn tip_refusal(pile: Pile, soil: Soil, top: u64, read: TipRead) -> u32
     requires { ⌜ (pile .head ≤ pile .tip) × (top ≤ pile .tip) × (read ≡ tipRead (tipOf pile) (soil .index)) ⌝ }
     ensures { λ r. ⌜ base.refuse r ≡ late soil top pile ⌝ }
 {

@@ -26,8 +26,7 @@ use Rattle.rules.proofs.Known as Known
 use Rattle.rules.proofs.RunLaws as RunLaws
 use Rattle.rules.proofs.Replies as Replies
 use Rattle.records.proofs.RoundTrip as RoundTrip
-use Rattle.records.proofs.SliceTrip.{SliceFits}
-use Rattle.moves.proofs.RowLaws.{Bytes}
+use Rattle.records.specs.Fits.{Bytes, SliceFits}
 use Rattle.calculation.proofs.Promise as Calculation
 use Rattle.edits.specs.Asked.{asked}
 use Rattle.edits.proofs.Promise as Edits

@@ -2,6 +2,7 @@
 pub mod BitLaws
 pub mod BlankLaws
 pub mod CopyLaws
+pub mod Heads
 pub mod LogTrip
 pub mod PackLaws
 pub mod PassLaws

@@ -1,18 +1,20 @@
 -- The places of a log and their bytes, each from the other.
-use mathlib.Core.Path.{_≡_, refl, ap, ap₂, sym, _∙_}
+use mathlib.Core.Path.{_≡_, refl, ap, ap₂, sym, subst, _∙_}
 use mathlib.Core.Bool.{true}
 use mathlib.Core.List.{List, [], _∷_, _++_}
 use Prim.Native.Nat.{ℕ, zero, suc, _+_, _*_, _-_, _≤_}
 use native.Mathlib.Omega.{arith}
-use lib.ListN.{length, getD, take, drop}
+use lib.ListN.{length, getD, take, drop, length-drop}
 use lib.Seq.{take-at, drop-drop}
 use Rattle.rules.specs.declared.Row.{Row}
 use Rattle.rules.specs.Base.{allZero}
-use Rattle.rules.specs.Packed.{rowsFrom, noRow, rowBytes, placesBytes}
+use Rattle.rules.specs.Packed.{rowAt, rowsFrom, noRow, rowBytes, placesBytes}
 use Rattle.rules.specs.Reading.{rowZero, rowsZero}
+use Rattle.records.specs.Fits.{Bytes}
 use Rattle.records.proofs.BitLaws.{row-shift}
+use Rattle.records.proofs.Heads.{heads, front}
 use Rattle.records.proofs.PassLaws.{AllFit, zero-is}
-use Rattle.records.proofs.RowTrip.{Bytes, row-there, row-back}
+use Rattle.records.proofs.RowTrip.{row-there, row-back}
 use Rattle.records.proofs.RowsLaws.{rows-length, rows-more}
 use Rattle.records.proofs.TestLaws.{both-true}
 
@@ -62,15 +64,14 @@ pub places-back : (n : ℕ) (t : List ℕ) → length t ≡ n * 5 → Bytes t �
 unfolding rowsFrom placesBytes
 places-back zero [] e b = refl
 places-back zero (x ∷ t) e b = let z : ⊥ = omega arith in absurd z
-places-back (suc n) [] e b = let z : ⊥ = omega arith in absurd z
-places-back (suc n) (x ∷ []) e b = let z : ⊥ = omega arith in absurd z
-places-back (suc n) (x ∷ y ∷ []) e b = let z : ⊥ = omega arith in absurd z
-places-back (suc n) (x ∷ y ∷ u ∷ []) e b = let z : ⊥ = omega arith in absurd z
-places-back (suc n) (x ∷ y ∷ u ∷ v ∷ []) e b = let z : ⊥ = omega arith in absurd z
-places-back (suc n) (x ∷ y ∷ u ∷ v ∷ w ∷ t) e b =
-    let rest : Bytes t = λ (k : ℕ). b (suc (suc (suc (suc (suc k))))) in
-    ap₂ (λ (p q : List ℕ). p ++ q) (row-back x y u v w t (b 0) (b 1) (b 2) (b 3) (b 4) rest)
-    (ap (placesBytes n) (sym (rows-shift (x ∷ y ∷ u ∷ v ∷ w ∷ t) 5 0 40 n refl)) ∙ places-back n t (omega arith) rest)
+places-back (suc n) t e b =
+    let s = drop 5 t in
+    let five : heads 5 t ++ s ≡ t = front 5 t (omega arith) in
+    let k = subst Bytes (sym five) b in
+    let rest : Bytes s = λ (j : ℕ). k (suc (suc (suc (suc (suc j))))) in
+    let row : rowBytes (rowAt t 0) ≡ heads 5 t = ap (λ (u : List ℕ). rowBytes (rowAt u 0)) (sym five) ∙ row-back _ _ _ _ _ s (k 0) (k 1) (k 2) (k 3) (k 4) rest in
+    ap₂ (λ (p q : List ℕ). p ++ q) row
+    (ap (placesBytes n) (sym (rows-shift t 5 0 40 n refl)) ∙ places-back n s (rw length-drop (omega arith)) rest) ∙ five
 
 -- the places behind the first n
 pub places-drop : (n m : ℕ) (rs : List Row) → drop (n * 5) (placesBytes (n + m) rs) ≡ placesBytes m (drop n rs)

@@ -15,8 +15,7 @@ use Rattle.rules.specs.Limits.{depthLimit}
 use Rattle.rules.specs.Packed.{noRow}
 use Rattle.rules.specs.Checks.{indexRight, wrongField, firstWrong, aRight, bRight, wrongPart, sectionCheck, pileChecks}
 use Rattle.rules.specs.Reading.{rowZero, rowsZero}
-use Rattle.records.proofs.RowTrip.{RowFits}
-use Rattle.records.proofs.PileTrip.{PileFits}
+use Rattle.records.specs.Fits.{PileFits, RowFits}
 use Rattle.records.proofs.TestLaws.{both-true, either-false, neg-true, neg-false}
 
 -- both of two checks pass

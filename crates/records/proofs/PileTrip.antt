@@ -5,16 +5,7 @@ use Prim.Native.Nat.{ℕ, _+_, _*_, _/_, _%_, _<_}
 use native.Mathlib.Omega.{arith}
 use Rattle.rules.specs.declared.Pile.{Pile}
 use Rattle.rules.specs.Packed.{bitsAt, pileOf, pileNumber, pileBytes}
-
--- each field fits its place
-pub record PileFits (p : Pile) : Type 0 where
-  pub section-fits : p .section < 4
-  pub a-fits : p .a < 4096
-  pub b-fits : p .b < 4096
-  pub method-fits : p .method < 4
-  pub head-fits : p .head < 65536
-  pub tip-fits : p .tip < 65536
-  pub zero-fits : p .zero < 16
+use Rattle.records.specs.Fits.{PileFits}
 
 -- which bits of its fields each byte holds
 abbrev pileSpread : Pile → List ℕ

@@ -1,5 +1,5 @@
 -- What was packed is read, and what was read packs to the same bytes: rows, logs, pile records and slices.
-use mathlib.Core.Path.{_≡_, refl, ap, sym, _∙_}
+use mathlib.Core.Path.{_≡_, refl, ap, sym, subst, _∙_}
 use mathlib.Core.Bool.{true, false}
 use mathlib.Core.List.{List, [], _∷_, append-nil}
 use Prim.Native.Nat.{ℕ, suc, _+_, _*_, _-_, _<_, _≤_}
@@ -17,16 +17,18 @@ use Rattle.rules.specs.Limits.{rowLimit, rowSize, logSize, pileSize, sliceSize}
 use Rattle.rules.specs.Packed.{rowAt, rowBytes, rowsFrom, placesBytes, countOf, logOf, logBytes, pileOf, pileBytes, sliceAt, sliceBytes}
 use Rattle.rules.specs.Checks.{longOther, countWrong, firstWrong, fieldChecks, pileChecks}
 use Rattle.rules.specs.Reading.{rowsZero, unusedFields, readLog, packLogCheck, readPile, packPileCheck}
+use Rattle.records.specs.Fits.{Bytes, RowFits, SliceFits}
 use Rattle.records.specs.Rows.{filled, rowsRead}
 use Rattle.records.proofs.BlankLaws.{blank-from}
+use Rattle.records.proofs.Heads.{whole}
 use Rattle.records.proofs.LogTrip.{rows-shift, rows-take, places-there, places-back, places-drop, places-zero}
 use Rattle.records.proofs.PackLaws.{places-length}
 use Rattle.records.proofs.PassLaws.{first-passes, when-passes, fit-parts, zero-fit, passed-fit, pile-passes}
 use Rattle.records.proofs.PileLaws.{pile-eight}
 use Rattle.records.proofs.PileTrip.{pile-there, pile-back}
-use Rattle.records.proofs.RowTrip.{Bytes, RowFits, row-there, row-back}
+use Rattle.records.proofs.RowTrip.{row-there, row-back}
 use Rattle.records.proofs.RowsLaws.{all-places, count-right, rows-read}
-use Rattle.records.proofs.SliceTrip.{SliceFits, slice-there, slice-back}
+use Rattle.records.proofs.SliceTrip.{slice-there, slice-back}
 use Rattle.records.proofs.TestLaws.{either-false, neg-false}
 
 no-bytes : Bytes []
@@ -40,39 +42,25 @@ pub row-packed-read : (r : Row) → RowFits r → rowAt (rowBytes r) 0 ≡ r
 row-packed-read r f = ap (λ (s : List ℕ). rowAt s 0) (sym (append-nil (rowBytes r))) ∙ row-there r [] f no-bytes
 
 pub row-read-packed : (s : List ℕ) → length s ≡ rowSize → Bytes s → rowBytes (rowAt s 0) ≡ s
-row-read-packed (a ∷ b ∷ c ∷ d ∷ e ∷ []) h k = row-back a b c d e [] (k 0) (k 1) (k 2) (k 3) (k 4) no-bytes
-row-read-packed [] h k = let z : ⊥ = omega arith in absurd z
-row-read-packed (a ∷ []) h k = let z : ⊥ = omega arith in absurd z
-row-read-packed (a ∷ b ∷ []) h k = let z : ⊥ = omega arith in absurd z
-row-read-packed (a ∷ b ∷ c ∷ []) h k = let z : ⊥ = omega arith in absurd z
-row-read-packed (a ∷ b ∷ c ∷ d ∷ []) h k = let z : ⊥ = omega arith in absurd z
-row-read-packed (a ∷ b ∷ c ∷ d ∷ e ∷ f ∷ s) h k = let z : ⊥ = omega arith in absurd z
+row-read-packed s h b =
+    let e = whole rowSize s h in
+    let k = subst Bytes (sym e) b in
+    subst (λ (t : List ℕ). rowBytes (rowAt t 0) ≡ t) e (row-back _ _ _ _ _ [] (k 0) (k 1) (k 2) (k 3) (k 4) no-bytes)
 
 pub slice-packed-read : (c : Slice) → SliceFits c → sliceAt (sliceBytes c) 0 ≡ c
 slice-packed-read c f = ap (λ (s : List ℕ). sliceAt s 0) (sym (append-nil (sliceBytes c))) ∙ slice-there c [] f no-bytes
 
 pub slice-read-packed : (s : List ℕ) → length s ≡ sliceSize → Bytes s → sliceBytes (sliceAt s 0) ≡ s
-slice-read-packed (a ∷ b ∷ c ∷ d ∷ e ∷ f ∷ g ∷ []) h k = slice-back a b c d e f g [] (k 0) (k 1) (k 2) (k 3) (k 4) (k 5) (k 6) no-bytes
-slice-read-packed [] h k = let z : ⊥ = omega arith in absurd z
-slice-read-packed (a ∷ []) h k = let z : ⊥ = omega arith in absurd z
-slice-read-packed (a ∷ b ∷ []) h k = let z : ⊥ = omega arith in absurd z
-slice-read-packed (a ∷ b ∷ c ∷ []) h k = let z : ⊥ = omega arith in absurd z
-slice-read-packed (a ∷ b ∷ c ∷ d ∷ []) h k = let z : ⊥ = omega arith in absurd z
-slice-read-packed (a ∷ b ∷ c ∷ d ∷ e ∷ []) h k = let z : ⊥ = omega arith in absurd z
-slice-read-packed (a ∷ b ∷ c ∷ d ∷ e ∷ f ∷ []) h k = let z : ⊥ = omega arith in absurd z
-slice-read-packed (a ∷ b ∷ c ∷ d ∷ e ∷ f ∷ g ∷ i ∷ s) h k = let z : ⊥ = omega arith in absurd z
+slice-read-packed s h b =
+    let e = whole sliceSize s h in
+    let k = subst Bytes (sym e) b in
+    subst (λ (t : List ℕ). sliceBytes (sliceAt t 0) ≡ t) e (slice-back _ _ _ _ _ _ _ [] (k 0) (k 1) (k 2) (k 3) (k 4) (k 5) (k 6) no-bytes)
 
 fields-back : (s : List ℕ) → length s ≡ pileSize → Bytes s → pileBytes (pileOf s) ≡ s
-fields-back (a ∷ b ∷ c ∷ d ∷ e ∷ f ∷ g ∷ i ∷ []) h k = pile-back a b c d e f g i (k 0) (k 1) (k 2) (k 3) (k 4) (k 5) (k 6) (k 7)
-fields-back [] h k = let z : ⊥ = omega arith in absurd z
-fields-back (a ∷ []) h k = let z : ⊥ = omega arith in absurd z
-fields-back (a ∷ b ∷ []) h k = let z : ⊥ = omega arith in absurd z
-fields-back (a ∷ b ∷ c ∷ []) h k = let z : ⊥ = omega arith in absurd z
-fields-back (a ∷ b ∷ c ∷ d ∷ []) h k = let z : ⊥ = omega arith in absurd z
-fields-back (a ∷ b ∷ c ∷ d ∷ e ∷ []) h k = let z : ⊥ = omega arith in absurd z
-fields-back (a ∷ b ∷ c ∷ d ∷ e ∷ f ∷ []) h k = let z : ⊥ = omega arith in absurd z
-fields-back (a ∷ b ∷ c ∷ d ∷ e ∷ f ∷ g ∷ []) h k = let z : ⊥ = omega arith in absurd z
-fields-back (a ∷ b ∷ c ∷ d ∷ e ∷ f ∷ g ∷ i ∷ j ∷ s) h k = let z : ⊥ = omega arith in absurd z
+fields-back s h b =
+    let e = whole pileSize s h in
+    let k = subst Bytes (sym e) b in
+    subst (λ (t : List ℕ). pileBytes (pileOf t) ≡ t) e (pile-back _ _ _ _ _ _ _ _ (k 0) (k 1) (k 2) (k 3) (k 4) (k 5) (k 6) (k 7))
 
 pub pile-packed-read : (p : Pile) (s : List ℕ) → p .head < 65536 → p .tip < 65536 → refuses (packPileCheck p s) ≡ false
     → readPile (pileBytes p) ≡ record { refusal = nothing; pile = p }

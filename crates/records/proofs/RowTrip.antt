@@ -6,18 +6,7 @@ use native.Mathlib.Omega.{arith}
 use lib.ListN.{getD}
 use Rattle.rules.specs.declared.Row.{Row}
 use Rattle.rules.specs.Packed.{bitsAt, rowAt, rowNumber, rowBytes}
-
--- every element is a byte
-abbrev pub Bytes : List ℕ → Type 0
-Bytes s = (k : ℕ) → getD s k 0 < 256
-
--- each field fits its place
-pub record RowFits (r : Row) : Type 0 where
-  pub thickness-fits : r .thickness < 65536
-  pub kind-fits : r .kind < 8
-  pub index-fits : r .index < 256
-  pub saturation-fits : r .saturation < 128
-  pub zero-fits : r .zero < 64
+use Rattle.records.specs.Fits.{Bytes, RowFits}
 
 -- which bits of its fields each byte holds
 abbrev rowSpread : Row → List ℕ

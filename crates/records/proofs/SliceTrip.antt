@@ -6,14 +6,7 @@ use native.Mathlib.Omega.{arith}
 use lib.ListN.{getD}
 use Rattle.rules.specs.declared.Slice.{Slice}
 use Rattle.rules.specs.Packed.{bitsAt, sliceAt, sliceNumber, sliceBytes}
-use Rattle.records.proofs.RowTrip.{Bytes}
-
--- each field fits its place
-pub record SliceFits (c : Slice) : Type 0 where
-  pub top-fits : c .top < 65536
-  pub thickness-fits : c .thickness < 2048
-  pub friction-fits : c .friction < 33554432
-  pub factor-fits : c .factor < 16
+use Rattle.records.specs.Fits.{Bytes, SliceFits}
 
 -- which bits of its fields each byte holds
 abbrev sliceSpread : Slice → List ℕ

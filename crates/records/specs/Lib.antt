@@ -1,3 +1,4 @@
 -- What reading and packing need beside document 01's definitions.
-pub mod Word
+pub mod Fits
 pub mod Rows
+pub mod Word

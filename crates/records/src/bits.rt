@@ -6,16 +6,16 @@ ghost use Rattle.rules.specs.Packed.{windowAt, bitsAt, eightBytes};
 ghost use Rattle.records.specs.Word.{wordOf};
 
 // The bit at which the next field begins; bit 0 is the top bit of the first byte.
-pub struct Cursor {
+pub(crate) struct Cursor {
     pub at: usize,
 }
 
-pub struct Bits {
+pub(crate) struct Bits {
     pub value: u64,
     pub next: Cursor,
 }
 
-pub struct Put {
+pub(crate) struct Put {
     pub bytes: [u8; 8],
     pub next: Cursor,
 }
@@ -66,7 +66,7 @@ fn window_at(s: &[u8], i: usize) -> u64
 }
 
 // The n bits at the cursor.
-pub fn take_bits(s: &[u8], c: Cursor, n: usize) -> Bits
+pub(crate) fn take_bits(s: &[u8], c: Cursor, n: usize) -> Bits
     requires { ⌜ (n ≤ 25) × (c .at < 2 ^ 32) ⌝ }
     ensures { λ r. ⌜ (r .value ≡ bitsAt (now (s .entry)) (c .at) n) × (r .next .at ≡ c .at + n) × (r .value < 2 ^ n) ⌝ }
 {
@@ -104,7 +104,7 @@ fn bytes_of(w: u64) -> [u8; 8]
 }
 
 // v in the n bits at the cursor, where the bits from the cursor on are 0. A v of more bits is carried into those before.
-pub fn put_bits(a: [u8; 8], c: Cursor, v: u64, n: usize) -> Put
+pub(crate) fn put_bits(a: [u8; 8], c: Cursor, v: u64, n: usize) -> Put
     requires { ⌜ (0 < c .at + n) × (c .at + n ≤ 64) ⌝ }
     ensures { λ r. ⌜ (r .bytes ≡ eightBytes (wordOf a + v * 2 ^ (64 - (c .at + n)))) × (r .next .at ≡ c .at + n) ⌝ }
 {

@@ -5,7 +5,7 @@ ghost use lib.ListN.{length};
 ghost use lib.Seq.{paste};
 
 // All of s goes to d, from byte `at` on.
-pub fn copy_in(d: &mut [u8], at: usize, s: &[u8])
+pub(crate) fn copy_in(d: &mut [u8], at: usize, s: &[u8])
     requires { ⌜ at + length (now s) ≤ length (now d) ⌝ }
     ensures { λ _. ⌜ now (d .exit) ≡ paste (now (d .entry)) at (now (s .entry)) (length (now (s .entry))) ⌝ }
 {

@@ -4,6 +4,7 @@ mod copy;
 mod log;
 mod pile;
 mod range;
+mod refusal;
 mod row;
 mod slice;
 

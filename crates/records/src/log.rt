@@ -1,8 +1,8 @@
 // A log: its count and its 64 row places, from 321 bytes and back.
 use super::bits::Cursor;
 use super::copy::copy_in;
-use super::range::first;
-use super::range::refuse;
+use super::refusal::first;
+use super::refusal::refuse;
 use super::row::no_row;
 use super::row::row_bytes;
 use super::row::row_field;

@@ -1,10 +1,9 @@
-// Ranges, both ends included; refusals by their number alone, and the first of two.
-use rules::Refusal;
+// Ranges, both ends included.
 ghost use mathlib.Core.Path.{_≡_};
-ghost use Rattle.rules.specs.Base as Base;
+ghost use Rattle.rules.specs.Base.{within};
 
-pub fn in_range(low: u16, high: u16, n: u16) -> bool
-    ensures { λ r. ⌜ r ≡ Base.within low high n ⌝ }
+pub(crate) fn in_range(low: u16, high: u16, n: u16) -> bool
+    ensures { λ r. ⌜ r ≡ within low high n ⌝ }
 {
     if n < low {
         return false;
@@ -13,24 +12,4 @@ pub fn in_range(low: u16, high: u16, n: u16) -> bool
         return false;
     }
     true
-}
-
-pub fn refuse(n: u32) -> Refusal
-    ensures { λ r. ⌜ r ≡ Base.refuse n ⌝ }
-{
-    Refusal {
-        number: n,
-        row: 0,
-        field: 0,
-    }
-}
-
-// a, or b where a refuses nothing.
-pub fn first(a: Refusal, b: Refusal) -> Refusal
-    ensures { λ r. ⌜ r ≡ Base.first a b ⌝ }
-{
-    if 0 < a.number {
-        return a;
-    }
-    b
 }

@@ -13,7 +13,7 @@ ghost use Rattle.rules.specs.Reading.{rowZero};
 const DEPTH_LIMIT: u16 = 60000;
 
 // A row, and the cursor behind it.
-pub struct RowTaken {
+pub(crate) struct RowTaken {
     pub row: Row,
     pub next: Cursor,
 }

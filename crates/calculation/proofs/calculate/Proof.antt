@@ -16,7 +16,8 @@ refused-requires c κs = search needs
 
 returns : tie.Need-returns
 returns c =
-    let w = pile-long (now (c .before .before .before .before .before .before .args .log)) (now (c .before .before .before .before .before .before .args .pile)) (now (c .before .before .before .before .before .before .args .table)) (c .before .before .if1 .taken) in
+    let a = c .before .before .before .before .before .before .args in
+    let w = pile-long (now (a .log)) (now (a .pile)) (now (a .table)) (c .before .before .if1 .taken) in
     (c .refused .ensures ∙ ap refused (c .before .refuse .ensures) ∙ w .0, w .1)
 
 refuse-requires-2 : tie.Need-refuse-requires-2
@@ -27,7 +28,8 @@ refused-requires-2 c κs = search needs
 
 returns-2 : tie.Need-returns-2
 returns-2 c =
-    let w = table-long (now (c .before .before .before .before .before .before .before .args .log)) (now (c .before .before .before .before .before .before .before .args .pile)) (now (c .before .before .before .before .before .before .before .args .table)) (c .before .before .if2 .taken) in
+    let a = c .before .before .before .before .before .before .before .args in
+    let w = table-long (now (a .log)) (now (a .pile)) (now (a .table)) (c .before .before .if2 .taken) in
     (c .refused2 .ensures ∙ ap refused (c .before .refuse2 .ensures) ∙ w .0, w .1)
 
 checked-log-requires : tie.Need-checked-log-requires
@@ -38,7 +40,8 @@ refused-requires-3 c κs = search needs
 
 returns-3 : tie.Need-returns-3
 returns-3 c =
-    let w = log-refused (now (c .before .before .before .before .before .before .before .before .before .before .args .log)) (now (c .before .before .before .before .before .before .before .before .before .before .args .pile)) (now (c .before .before .before .before .before .before .before .before .before .before .args .table)) (c .before .before .before .before .before .before .if1 .left) (c .before .before .before .before .before .if2 .left) _ (c .before .before .before .before .checked-log .ensures) (c .before .if3 .taken) in
+    let a = c .before .before .before .before .before .before .before .before .before .before .args in
+    let w = log-refused (now (a .log)) (now (a .pile)) (now (a .table)) (c .before .before .before .before .before .before .if1 .left) (c .before .before .before .before .before .if2 .left) _ (c .before .before .before .before .checked-log .ensures) (c .before .if3 .taken) in
     (c .refused3 .ensures ∙ w .0, w .1)
 
 work-out-requires : tie.Need-work-out-requires
@@ -52,7 +55,10 @@ same-length c = c .before .before .before .put-table .kept .0
 
 returns-4 : tie.Need-returns-4
 returns-4 c =
-    let w = worked (now (c .before .before .before .before .before .before .before .before .before .before .before .before .before .before .before .before .before .before .args .log)) (now (c .before .before .before .before .before .before .before .before .before .before .before .before .before .before .before .before .before .before .args .pile)) (now (c .before .before .before .before .before .before .before .before .before .before .before .before .before .before .before .before .before .before .args .table)) (c .before .before .before .before .before .before .before .before .before .before .before .before .before .before .if1 .left) (c .before .before .before .before .before .before .before .before .before .before .before .before .before .if2 .left) _ (c .before .before .before .before .before .before .before .before .before .before .before .before .checked-log .ensures) (c .before .before .before .before .before .before .before .before .before .if3 .left) _ (c .before .before .before .before .before .before .before .work-out .ensures) in
+    let work = c .before .before .before .before .before .before .before in
+    let read = work .before .before .before .before .before in
+    let a = read .before .before .before .before .before .before .args in
+    let w = worked (now (a .log)) (now (a .pile)) (now (a .table)) (read .before .before .if1 .left) (read .before .if2 .left) _ (read .checked-log .ensures) (work .before .before .if3 .left) _ (work .work-out .ensures) in
     (w .0, c .before .before .before .put-table .ensures ∙ w .1)
 
 pub calculate-spec : {M : Type 1} → statement M

@@ -16,7 +16,9 @@ no-work-requires c κs = search needs
 
 returns : tie.Need-returns
 returns c =
-    c .no-work .ensures ∙ no-pile (usedRows (c .before .before .before .before .before .before .args .log)) (now (c .before .before .before .before .before .before .args .pile)) _ (c .before .before .before .before .read-pile .ensures) (c .before .before .before .before .before .before .pre .1) (c .before .if1 .taken)
+    let read = c .before .before .before .before in
+    let a = read .before .before in
+    c .no-work .ensures ∙ no-pile (usedRows (a .args .log)) (now (a .args .pile)) _ (read .read-pile .ensures) (a .pre .1) (c .before .if1 .taken)
 
 depth-of-requires : tie.Need-depth-of-requires
 depth-of-requires c κs = search needs
@@ -32,18 +34,30 @@ no-work-requires-2 c κs = search needs
 
 returns-2 : tie.Need-returns-2
 returns-2 c =
+    let depth = c .before .before .before in
+    let read = depth .before .before .before .before .before .before in
+    let a = read .before .before in
     c .no-work2 .ensures ∙ ap noWork (c .before .refuse .ensures)
-    ∙ no-depth (usedRows (c .before .before .before .before .before .before .before .before .before .before .before .args .log)) (now (c .before .before .before .before .before .before .before .before .before .before .before .args .pile)) _ (c .before .before .before .before .before .before .before .before .before .read-pile .ensures) (c .before .before .before .before .before .before .before .before .before .before .before .pre .1) (c .before .before .before .before .before .before .if1 .left) _ (c .before .before .before .before .depth-of .ensures) _ (c .before .before .before .depth-refusal .ensures) (c .before .before .if2 .taken)
+    ∙ no-depth (usedRows (a .args .log)) (now (a .args .pile)) _ (read .read-pile .ensures) (a .pre .1) (depth .before .before .before .if1 .left) _ (depth .before .depth-of .ensures) _ (depth .depth-refusal .ensures)
+    (c .before .before .if2 .taken)
 
 work-pile-requires : tie.Need-work-pile-requires
-work-pile-requires c κs = (
-  c .before .before .before .before .before .before .before .before .before .pre .0,
-  past-depth (usedRows (c .before .before .before .before .before .before .before .before .before .args .log)) (now (c .before .before .before .before .before .before .before .before .before .args .pile)) _ (c .before .before .before .before .before .before .before .read-pile .ensures) (c .before .before .before .before .before .before .before .before .before .pre .1) (c .before .before .before .before .if1 .left) _ (c .before .before .depth-of .ensures) _ (c .before .depth-refusal .ensures) (c .if2 .left),
-)
+work-pile-requires c κs =
+    let depth = c .before in
+    let read = depth .before .before .before .before .before .before in
+    let a = read .before .before in (
+      a .pre .0,
+      past-depth (usedRows (a .args .log)) (now (a .args .pile)) _ (read .read-pile .ensures) (a .pre .1) (depth .before .before .before .if1 .left) _ (depth .before .depth-of .ensures) _ (depth .depth-refusal .ensures)
+          (c .if2 .left),
+    )
 
 returns-3 : tie.Need-returns-3
 returns-3 c =
-    c .work-pile .ensures ∙ ap (workedOut (usedRows (c .before .before .before .before .before .before .before .before .before .before .args .log))) (pile-same (usedRows (c .before .before .before .before .before .before .before .before .before .before .args .log)) (now (c .before .before .before .before .before .before .before .before .before .before .args .pile)) _ (c .before .before .before .before .before .before .before .before .read-pile .ensures) (c .before .before .before .before .before .before .before .before .before .before .pre .1) (c .before .before .before .before .before .if1 .left))
+    let depth = c .before .before in
+    let read = depth .before .before .before .before .before .before in
+    let a = read .before .before in
+    c .work-pile .ensures
+    ∙ ap (workedOut (usedRows (a .args .log))) (pile-same (usedRows (a .args .log)) (now (a .args .pile)) _ (read .read-pile .ensures) (a .pre .1) (depth .before .before .before .if1 .left))
 
 pub work-out-spec : {M : Type 1} → statement M
 work-out-spec =

@@ -16,16 +16,19 @@ cast-tip c = search needs
 
 stratum-at-requires : tie.Need-stratum-at-requires
 stratum-at-requires c κs =
-    let k = clear (depthOf (usedRows (c .before .args .log))) (c .before .args .pile) (c .before .pre .1) in
-    (c .before .pre .0, omega (arith, k .deep))
+    let a = c .before in
+    let k = clear (depthOf (usedRows (a .args .log))) (a .args .pile) (a .pre .1) in
+    (a .pre .0, omega (arith, k .deep))
 
 tip-resistance-requires : tie.Need-tip-resistance-requires
 tip-resistance-requires c κs = search needs
 
 tip-refusal-requires : tie.Need-tip-refusal-requires
 tip-refusal-requires c κs =
-    let k = clear (depthOf (usedRows (c .before .before .before .before .args .log))) (c .before .before .before .before .args .pile) (c .before .before .before .before .pre .1) in
-    (omega (arith, k .order), stratum-top (usedRows (c .before .before .before .before .args .log)) (c .before .before .before .before .args .pile) (c .before .before .before .before .pre .1) _ (c .before .before .stratum-at .ensures), c .tip-resistance .ensures .0)
+    let at = c .before .before in
+    let a = at .before .before in
+    let k = clear (depthOf (usedRows (a .args .log))) (a .args .pile) (a .pre .1) in
+    (omega (arith, k .order), stratum-top (usedRows (a .args .log)) (a .args .pile) (a .pre .1) _ (at .stratum-at .ensures), c .tip-resistance .ensures .0)
 
 refuse-requires : tie.Need-refuse-requires
 refuse-requires c κs = search needs
@@ -35,13 +38,17 @@ no-work-requires c κs = search needs
 
 returns : tie.Need-returns
 returns c =
+    let tip = c .before .before .before in
+    let at = tip .before .before .before in
+    let a = at .before .before in
     c .no-work .ensures ∙ ap noWork (c .before .refuse .ensures)
-    ∙ no-tip (usedRows (c .before .before .before .before .before .before .before .before .args .log)) (c .before .before .before .before .before .before .before .before .args .pile) (c .before .before .before .before .before .before .before .before .pre .1) _ (c .before .before .before .before .before .before .stratum-at .ensures) _ (c .before .before .before .tip-refusal .ensures) (c .before .before .if1 .taken)
+    ∙ no-tip (usedRows (a .args .log)) (a .args .pile) (a .pre .1) _ (at .stratum-at .ensures) _ (tip .tip-refusal .ensures) (c .before .before .if1 .taken)
 
 cut-shaft-requires : tie.Need-cut-shaft-requires
 cut-shaft-requires c κs =
-    let k = clear (depthOf (usedRows (c .before .before .before .before .before .before .args .log))) (c .before .before .before .before .before .before .args .pile) (c .before .before .before .before .before .before .pre .1) in
-    (c .before .before .before .before .before .before .pre .0, k .order, k .near, omega (arith, k .deep))
+    let a = c .before .before .before .before .before .before in
+    let k = clear (depthOf (usedRows (a .args .log))) (a .args .pile) (a .pre .1) in
+    (a .pre .0, k .order, k .near, omega (arith, k .deep))
 
 refuse-requires-2 : tie.Need-refuse-requires-2
 refuse-requires-2 c κs = search needs
@@ -51,22 +58,32 @@ no-work-requires-2 c κs = search needs
 
 returns-2 : tie.Need-returns-2
 returns-2 c =
+    let cut = c .before .before .before in
+    let tip = cut .before .before in
+    let at = tip .before .before .before in
+    let a = at .before .before in
     c .no-work2 .ensures ∙ ap noWork (c .before .refuse2 .ensures)
-    ∙ no-place (usedRows (c .before .before .before .before .before .before .before .before .before .before .args .log)) (c .before .before .before .before .before .before .before .before .before .before .args .pile) (c .before .before .before .before .before .before .before .before .before .before .pre .1) _ (c .before .before .before .before .before .before .before .before .stratum-at .ensures) _ (c .before .before .before .before .before .tip-refusal .ensures) (c .before .before .before .before .if1 .left)
-    _ (c .before .before .before .cut-shaft .ensures .0) (c .before .before .if2 .taken)
+    ∙ no-place (usedRows (a .args .log)) (a .args .pile) (a .pre .1) _ (at .stratum-at .ensures) _ (tip .tip-refusal .ensures) (cut .before .if1 .left) _ (cut .cut-shaft .ensures .0) (c .before .before .if2 .taken)
 
 pascals-requires : tie.Need-pascals-requires
 pascals-requires c κs = search needs
 
 five-numbers-requires : tie.Need-five-numbers-requires
 five-numbers-requires c κs =
-    let k = clear (depthOf (usedRows (c .before .before .before .before .before .before .before .before .before .before .before .args .log))) (c .before .before .before .before .before .before .before .before .before .before .before .args .pile) (c .before .before .before .before .before .before .before .before .before .before .before .pre .1) in
-    (sides (c .before .before .before .before .before .before .before .before .before .before .before .args .pile) (k .good), omega (arith, k .order), omega (arith, c .before .pascals .ensures, c .before .before .before .before .before .before .before .tip-resistance .ensures .1), omega (arith, c .before .before .before .before .cut-shaft .ensures .1))
+    let cut = c .before .before .before .before in
+    let tip = cut .before .before in
+    let a = tip .before .before .before .before .before in
+    let k = clear (depthOf (usedRows (a .args .log))) (a .args .pile) (a .pre .1) in
+    (sides (a .args .pile) (k .good), omega (arith, k .order), omega (arith, c .before .pascals .ensures, tip .before .tip-resistance .ensures .1), omega (arith, cut .cut-shaft .ensures .1))
 
 returns-3 : tie.Need-returns-3
 returns-3 c =
-    done (usedRows (c .before .before .before .before .before .before .before .before .before .before .before .before .args .log)) (c .before .before .before .before .before .before .before .before .before .before .before .before .args .pile) (c .before .before .before .before .before .before .before .before .before .before .before .before .pre .1) _ (c .before .before .before .before .before .before .before .before .before .before .stratum-at .ensures) _ (c .before .before .before .before .before .before .before .tip-refusal .ensures) (c .before .before .before .before .before .before .if1 .left)
-    _ (c .before .before .before .before .before .cut-shaft .ensures .0) (c .before .before .before .before .if2 .left) _ _ _ (c .before .before .before .before .before .before .before .before .tip-resistance .ensures .0) (c .before .before .pascals .ensures) (c .five-numbers .ensures)
+    let cut = c .before .before .before .before .before in
+    let tip = cut .before .before in
+    let at = tip .before .before .before in
+    let a = at .before .before in
+    done (usedRows (a .args .log)) (a .args .pile) (a .pre .1) _ (at .stratum-at .ensures) _ (tip .tip-refusal .ensures) (cut .before .if1 .left) _ (cut .cut-shaft .ensures .0) (c .before .before .before .before .if2 .left)
+    _ _ _ (tip .before .tip-resistance .ensures .0) (c .before .before .pascals .ensures) (c .five-numbers .ensures)
 
 pub work-pile-spec : {M : Type 1} → statement M
 work-pile-spec =

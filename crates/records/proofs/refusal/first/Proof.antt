@@ -1,8 +1,8 @@
--- `records::range::first` meets its contract.
+-- `records::refusal::first` meets its contract.
 use borrow.Author.Tests.{lt-ltb, le-ltb}
 use Rattle.rules.specs.Base.{first}
-use Rattle.records.proofs.range.first.Statement.{statement}
-use Rattle.records.proofs.range.first.Tie as tie
+use Rattle.records.proofs.refusal.first.Statement.{statement}
+use Rattle.records.proofs.refusal.first.Tie as tie
 
 returns : tie.Need-returns
 unfolding first

@@ -1,0 +1,96 @@
+// What the lines are made of: numbers, refusals, rows, bytes.
+use libc::STDOUT_FILENO;
+use rules::Refusal;
+use rules::Row;
+ghost use mathlib.Core.Path.{_≡_};
+ghost use Prim.Native.Nat.{_+_, _*_};
+
+// Two bytes as one number.
+pub(crate) fn wide(high: u8, low: u8) -> u16
+    ensures { λ r. ⌜ r ≡ high * 256 + low ⌝ }
+{
+    high as u16 * 256 + low as u16
+}
+
+fn one(x: u8) -> u64 {
+    x as u64
+}
+
+pub(crate) fn number(n: u64) {
+    io::write_all(STDOUT_FILENO, b" ");
+    io::print_decimal(STDOUT_FILENO, n);
+}
+
+pub(crate) fn end_line() {
+    io::write_all(STDOUT_FILENO, b"\n");
+}
+
+pub(crate) fn refusal(r: Refusal) {
+    number(r.number as u64);
+    number(r.row as u64);
+    number(r.field as u64);
+}
+
+pub(crate) fn row(r: Row) {
+    number(r.thickness as u64);
+    number(r.kind as u64);
+    number(r.index as u64);
+    number(r.saturation as u64);
+    number(r.zero as u64);
+}
+
+// The row of a place that is used.
+pub(crate) fn used_row(r: Row) {
+    if r.thickness == 0 {
+        return;
+    }
+    row(r);
+}
+
+// Two digits for each byte, of 16 at most.
+pub(crate) fn bytes(s: &[u8]) {
+    io::write_all(STDOUT_FILENO, b" ");
+    let mut i: usize = 0;
+    while i < 16 {
+        if i >= s.len() {
+            return;
+        }
+        io::print_hex(STDOUT_FILENO, one(s[i]), 2);
+        i += 1;
+    }
+}
+
+// The sum of the sums of the first byte, of the first two, and so on.
+pub(crate) fn weight(s: &[u8]) -> u64 {
+    let mut sum: u64 = 0;
+    let mut all: u64 = 0;
+    let mut i: usize = 0;
+    while i < s.len() {
+        sum = std::num::wrapping_add_u64(sum, one(s[i]));
+        all = std::num::wrapping_add_u64(all, sum);
+        i += 1;
+    }
+    all
+}
+
+fn fields(r: Row) -> u64 {
+    r.thickness as u64
+        + 3 * r.kind as u64
+        + 5 * r.index as u64
+        + 7 * r.saturation as u64
+        + 11 * r.zero as u64
+}
+
+// The same of the rows of a log, by what their fields come to.
+pub(crate) fn rows_weight(l: rules::Log) -> u64 {
+    let mut sum: u64 = 0;
+    let mut all: u64 = 0;
+    let mut i: usize = 0;
+    while i < 64 {
+        let r = l.rows[i];
+        sum = std::num::wrapping_add_u64(sum, fields(r));
+        all = std::num::wrapping_add_u64(all, sum);
+        i += 1;
+    }
+    all
+}
