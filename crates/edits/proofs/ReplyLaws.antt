@@ -36,11 +36,14 @@ pick-le : (t : Bool) (a n : ℕ) → a ≤ n → pick t a 0 ≤ n
 pick-le true a n h = h
 pick-le false a n h = omega arith
 
-pub kept-few : (n : ℕ) (new old : List ℕ) → kept n new old ≤ n
+kept-few : (n : ℕ) (new old : List ℕ) → kept n new old ≤ n
 unfolding kept
 kept-few zero new old = omega arith
 kept-few (suc n) new old =
     pick-le (sameBytes (take sliceSize new) (take sliceSize old)) _ (suc n) (omega (arith, kept-few n (drop sliceSize new) (drop sliceSize old)))
+
+pub kept-fits : (r n : ℕ) (new old : List ℕ) → r ≡ kept n new old → n ≤ placeLimit → r < 4294967296
+kept-fits r n new old e h = omega (arith, kept-few n new old)
 
 -- what check 1 leaves known
 pub record Long (kind : ℕ) (r l p t : List ℕ) : Type 0 where

@@ -1,5 +1,9 @@
 // The door for hosts: the core's entries under plain names, for C and Rust. Each takes any bytes of any length, and replies.
-use rules::{Answer, LogRead, PileRead, Refusal, SliceRead};
+use rules::Answer;
+use rules::LogRead;
+use rules::PileRead;
+use rules::Refusal;
+use rules::SliceRead;
 ghost use mathlib.Core.Path.{_≡_};
 ghost use Rattle.rules.specs.Reading.{readLog, readPile, readSlice, packLogCheck, packedLog, packPileCheck, packedPile};
 ghost use Rattle.rules.specs.Answers.{refused};
@@ -16,7 +20,15 @@ pub extern "C" fn psamathyr_calculate(log: &[u8], pile: &[u8], table: &mut [u8])
 }
 
 #[no_mangle]
-pub extern "C" fn psamathyr_edit(log: &mut [u8], pile: &[u8], table: &mut [u8], kind: u32, k: u32, x: u32, row: &[u8]) -> Answer
+pub extern "C" fn psamathyr_edit(
+    log: &mut [u8],
+    pile: &[u8],
+    table: &mut [u8],
+    kind: u32,
+    k: u32,
+    x: u32,
+    row: &[u8],
+) -> Answer
     ensures reply { λ r. ⌜ r ≡ editReply (asked kind k x (now (row .entry))) (now (log .entry)) (now (pile .entry)) (now (table .entry)) ⌝ }
     ensures log { λ _. ⌜ now (log .exit) ≡ editLog (asked kind k x (now (row .entry))) (now (log .entry)) (now (pile .entry)) (now (table .entry)) ⌝ }
     ensures table { λ _. ⌜ now (table .exit) ≡ editTable (asked kind k x (now (row .entry))) (now (log .entry)) (now (pile .entry)) (now (table .entry)) ⌝ }

@@ -1,6 +1,7 @@
 -- Lists of zero bytes, looked through from the front.
 use mathlib.Core.Path.{_≡_, refl}
-use mathlib.Core.Bool.{true, false}
+use mathlib.Core.Bool.{true}
+use mathlib.Core.Logic.{⊎-elim}
 use mathlib.Core.List.{List, [], _∷_}
 use Prim.Native.Nat.{ℕ, zero, suc, _+_, _-_, _<_, _≤_}
 use native.Mathlib.Numerals.{add-one}
@@ -10,20 +11,41 @@ use lib.Dec.{eqb}
 use lib.ListN.{length, getD, drop, drop-of-length-le}
 use lib.Seq.{drop-cons, getD-drop}
 use Rattle.rules.specs.Base.{allZero}
+use Rattle.rules.proofs.Basics.{split}
 use Rattle.records.proofs.BitLaws.{Blank}
 use Rattle.records.proofs.TestLaws.{both-true}
 
-pub zero-more : (s : List ℕ) (i : ℕ) → i < length s → getD s i 0 ≡ 0 → allZero (drop i s) ≡ allZero (drop (i + 1) s)
-unfolding allZero
-zero-more s i h e = rw (add-one, drop-cons s i 0, eq-eqb _ _ e)
+-- the bytes added up
+unfoldable pub sumOf : List ℕ → ℕ
+sumOf [] = 0
+sumOf (b ∷ s) = b + sumOf s
 
-pub zero-stop : (s : List ℕ) (i : ℕ) → i < length s → (getD s i 0 ≡ 0 → ⊥) → false ≡ allZero (drop i s)
-unfolding allZero
-zero-stop s i h e = rw (drop-cons s i 0, ne-eqb _ _ e)
+pub sum-more : (s : List ℕ) (i : ℕ) → i < length s → sumOf (drop i s) ≡ getD s i 0 + sumOf (drop (i + 1) s)
+unfolding sumOf
+sum-more s i h = rw (add-one, drop-cons s i 0)
 
-pub zero-end : (s : List ℕ) (i : ℕ) → length s ≤ i → true ≡ allZero (drop i s)
-unfolding allZero
-zero-end s i h = rw (drop-of-length-le s h)
+-- bytes add up to nothing just where they are all zero
+pub sum-zero : (s : List ℕ) → eqb (sumOf s) 0 ≡ allZero s
+unfolding sumOf allZero
+sum-zero [] = refl
+sum-zero (b ∷ s) =
+    ⊎-elim
+    (λ (l : 0 < b).
+    let n : b ≡ 0 → ⊥ = λ (e : b ≡ 0). omega arith in
+    let m : b + sumOf s ≡ 0 → ⊥ = λ (e : b + sumOf s ≡ 0). omega arith in
+    rw (ne-eqb (b + sumOf s) 0 m, ne-eqb b 0 n))
+    (λ (l : b ≤ 0).
+    let z : b ≡ 0 = omega arith in
+    let y : b + sumOf s ≡ sumOf s = omega arith in
+    rw (eq-eqb b 0 z, y) (sum-zero s))
+    (split 0 b)
+
+pub sum-end : (s : List ℕ) (i sum from : ℕ) → length s ≤ i → sum + sumOf (drop i s) ≡ sumOf (drop from s) → eqb sum 0 ≡ allZero (drop from s)
+unfolding sumOf
+sum-end s i sum from h e =
+    let d : sumOf (drop i s) ≡ 0 = rw (drop-of-length-le s h) in
+    let f : sum ≡ sumOf (drop from s) = omega arith in
+    rw f (sum-zero (drop from s))
 
 all-zero : (s : List ℕ) (k : ℕ) → allZero s ≡ true → getD s k 0 ≡ 0
 unfolding allZero

@@ -20,7 +20,7 @@ pub(crate) struct Put {
     pub next: Cursor,
 }
 
-fn wide(x: u8) -> u64
+pub(crate) fn wide(x: u8) -> u64
     ensures { λ r. ⌜ (r ≡ x) × (r < 256) ⌝ }
 {
     x as u64

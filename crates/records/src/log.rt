@@ -1,5 +1,6 @@
 // A log: its count and its 64 row places, from 321 bytes and back.
 use super::bits::Cursor;
+use super::bits::wide;
 use super::copy::copy_in;
 use super::refusal::first;
 use super::refusal::refuse;
@@ -41,18 +42,18 @@ fn no_log(r: Refusal) -> LogRead
     }
 }
 
-// Whether the bytes from `from` on are all zero.
+// Whether the bytes from `from` on are all zero: they are added up, with no test in between.
 fn blank_from(s: &[u8], from: usize) -> bool
+    requires { ⌜ length (now s) ≡ logSize ⌝ }
     ensures { λ r. ⌜ r ≡ allZero (drop from (now (s .entry))) ⌝ }
 {
+    let mut sum: u64 = 0;
     let mut i = from;
     while i < s.len() {
-        if s[i] != 0 {
-            return false;
-        }
+        sum += wide(s[i]);
         i += 1;
     }
-    true
+    sum == 0
 }
 
 fn count_wrong(n: u8) -> bool

@@ -92,11 +92,11 @@ only-millimetres rs ts p h = (
 -- under 5 to 12 or 15 every number is zero, and no slice is held
 module _ (depth : ℕ) (at : Soil) (top : ℕ) (cut : List Slice) (p : Pile) where
   refused-by : (t : Bool) (r : Refusal) (full : Answer) → refuses (full .refusal) ≡ false → t ≡ refuses r → refuses (pick t (refused r) full .refusal) ≡ true
-    → (pick t (refused r) full ≡ refused (pick t (refused r) full .refusal)) × (pick t [] cut ≡ [])
+      → (pick t (refused r) full ≡ refused (pick t (refused r) full .refusal)) × (pick t [] cut ≡ [])
   refused-by true r full f e h = (refl, refl)
   refused-by false r full f e h = absurd (true≢false (sym h ∙ f))
 
   pub refused-from : refuses (answerFrom depth at top cut p .refusal) ≡ true
-    → (answerFrom depth at top cut p ≡ refused (answerFrom depth at top cut p .refusal)) × (slicesFrom depth at top cut p ≡ [])
+      → (answerFrom depth at top cut p ≡ refused (answerFrom depth at top cut p .refusal)) × (slicesFrom depth at top cut p ≡ [])
   unfolding answerFrom slicesFrom numbers
   refused-from h = let r : Refusal = checksFrom depth at top cut p in refused-by (refuses r) r (numbers at p (resistance p at) (lineOf cut)) refl refl h

@@ -1,4 +1,5 @@
 -- edit: a refused one leaves everything; an accepted one changes the log, which is then read, worked out and held.
+use native.Mathlib.Omega.{arith}
 use Rattle.edits.specs.Asked.{asked}
 use Rattle.edits.proofs.ReplyLaws.{refused-edit, Accepted, accepted, read-good, few, accepted-edit}
 use borrow.Author.Needs.{needs}
@@ -10,7 +11,7 @@ fair : (c : tie.Else1)
     → let a = c .before .before .before .before .before .before .before .before .before .args in
     Accepted (asked (a .kind) (a .k) (a .x) (a .row .now)) (a .log .now) (a .pile .now) (a .table .now)
 fair c =
-    accepted _ _ _ _ _ _ _ _ (c .before .before .edit-refusal .ensures) (c .if1 .left) (λ i. c .before .before .before .before .before .before .before .before .slice-known .given i .fits) (λ i. c .before .before .before .before .before .shared-slice-known2 .given i .fits)
+    accepted _ _ _ _ _ _ _ _ (c .before .before .edit-refusal .ensures) (omega (arith, c .if1 .left)) (λ i. c .before .before .before .before .before .before .before .before .slice-known .given i .fits) (λ i. c .before .before .before .before .before .shared-slice-known2 .given i .fits)
 
 edit-refusal-requires : tie.Need-edit-refusal-requires
 edit-refusal-requires c κs = search needs

@@ -3,7 +3,7 @@ use mathlib.Core.Path.{ap}
 use Prim.Native.Nat.{ℕ}
 use native.Mathlib.Omega.{arith}
 use Rattle.rules.specs.Edits.{withKept}
-use Rattle.edits.proofs.ReplyLaws.{kept-few}
+use Rattle.edits.proofs.ReplyLaws.{kept-fits}
 use borrow.Author.Needs.{needs}
 use Rattle.edits.proofs.hold.Statement.{statement}
 use Rattle.edits.proofs.hold.Tie as tie
@@ -16,7 +16,7 @@ store-requires c κs = search needs
 
 cast-answer : tie.Need-cast-answer
 cast-answer c =
-    omega (arith, c .before .before .before .before .before .kept-count .ensures, kept-few (c .before .before .before .before .before .before .before .before .before .args .work .used) (c .before .before .before .before .before .before .before .before .before .args .work .bytes) (c .before .before .before .before .before .before .before .before .before .args .table .now), c .before .before .before .before .before .before .before .before .before .pre)
+    record { fits = kept-fits _ _ _ _ (c .before .before .before .before .before .kept-count .ensures) (omega (arith, c .before .before .before .before .before .before .before .before .before .pre .0)) }
 
 same-length : tie.Need-same-length
 same-length c = search needs

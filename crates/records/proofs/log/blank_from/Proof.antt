@@ -1,39 +1,56 @@
--- `records::log::blank_from` meets its contract.
-use mathlib.Core.Path.{_≡_, refl, sym, _∙_}
-use Prim.Native.Nat.{_-_}
+-- `records::log::blank_from` meets its contract: what is added up so far and what is left are the sum of all.
+use mathlib.Core.Path.{_≡_}
+use Prim.Native.Nat.{_+_, _*_, _-_, _≤_}
+use native.Mathlib.Omega.{arith}
 use lib.ListN.{length, drop}
-use Rattle.rules.specs.Base.{allZero}
-use Rattle.records.proofs.BlankLaws.{zero-more, zero-stop, zero-end}
+use Rattle.records.proofs.BlankLaws.{sumOf, sum-more, sum-end}
 use borrow.Author.Needs.{needs}
 use Rattle.records.proofs.log.blank_from.Statement.{statement}
 use Rattle.records.proofs.log.blank_from.Tie as tie
+use Rattle.records.proofs.log.blank_from.Reads as reads
+use Rattle.records.proofs.log.blank_from.Lts as lts
+use Rattle.records.proofs.bits.wide.Reads as wide-reads
 
 abbrev Inv-loop : tie.InvT-loop
-Inv-loop s from i₀ i = allZero (drop i s) ≡ allZero (drop from s)
+Inv-loop s from sum₀ i₀ sum i = (sum + sumOf (drop i s) ≡ sumOf (drop from s)) × (sum ≤ 255 * i)
 
 abbrev μ-loop : tie.MeasureT-loop
-μ-loop s from i₀ i = length s - i
+μ-loop s from sum₀ i₀ sum i = length s - i
 
+-- src/log.rt:51:5
 loop-holds : tie.Need-loop-holds Inv-loop μ-loop
-loop-holds c = refl
+loop-holds c = (omega arith, omega arith)
 
-shared-slice-read-if1 : tie.Need-shared-slice-read-if1 Inv-loop μ-loop
-shared-slice-read-if1 c = search needs
+-- src/log.rt:52:21
+shared-slice-read-wide : tie.Need-shared-slice-read-wide Inv-loop μ-loop
+shared-slice-read-wide c = search needs
 
-returns : tie.Need-returns Inv-loop μ-loop
-returns c = zero-stop _ _ (c .before .before .loop-test .taken) (c .if1 .taken) ∙ c .before .before .before .loop .inv
+-- src/log.rt:52:16
+wide-requires : tie.Need-wide-requires Inv-loop μ-loop
+wide-requires c κs = search needs
 
+-- src/log.rt:52:9
+add-sum : tie.Need-add-sum Inv-loop μ-loop
+add-sum c = omega arith
+
+-- src/log.rt:53:9
 add-i : tie.Need-add-i Inv-loop μ-loop
 add-i c = search needs
 
+-- src/log.rt:51:5
 loop-less : tie.Need-loop-less Inv-loop μ-loop
 loop-less c = search needs
 
+-- src/log.rt:51:5
 loop-again : tie.Need-loop-again Inv-loop μ-loop
-loop-again c = sym (zero-more _ _ (c .before .before .loop-test .taken) (c .if1 .left)) ∙ c .before .before .before .loop .inv
+loop-again c =
+    let s = c .before .before .before .before .before .args .s .now in
+    let i = c .before .before .before .loop .i in
+    (omega (arith, sum-more s i (c .before .before .loop-test .taken)), omega arith)
 
-returns-2 : tie.Need-returns-2 Inv-loop μ-loop
-returns-2 c = zero-end _ _ (c .loop-test .left) ∙ c .before .loop .inv
+-- src/log.rt:45:1
+returns : tie.Need-returns Inv-loop μ-loop
+returns c = sum-end _ _ _ (c .before .before .before .args .from) (c .loop-test .left) (c .before .loop .inv .0)
 
 pub blank-from-spec : {M : Type 1} → statement M
 blank-from-spec =
@@ -42,9 +59,10 @@ blank-from-spec =
     Inv-loop
     μ-loop
     loop-holds
-    shared-slice-read-if1
-    returns
+    shared-slice-read-wide
+    wide-requires
+    add-sum
     add-i
     loop-less
     loop-again
-    returns-2)
+    returns)
