@@ -7,7 +7,7 @@ if [ "$(uname -m)" = x86_64 ]; then
     CARGO86=cargo
     TARGET86=
 else
-    if ! { [ -x /usr/bin/cargo ] && [ -d /usr/lib/rustlib/x86_64-unknown-linux-gnu ] && command -v x86_64-linux-gnu-gcc qemu-x86_64 >/dev/null; }; then
+    if ! { [ -x /usr/bin/cargo ] && [ -d /usr/lib/rustlib/x86_64-unknown-linux-gnu ] && command -v x86_64-linux-gnu-gcc >/dev/null && command -v qemu-x86_64 >/dev/null; }; then
         dpkg --add-architecture amd64 &&
             apt-get update -qq &&
             DEBIAN_FRONTEND=noninteractive apt-get install -y -qq --no-install-recommends gcc-x86-64-linux-gnu libc6-dev-amd64-cross qemu-user rustc cargo libstd-rust-dev:amd64 >/dev/null
