@@ -175,7 +175,9 @@ fn rows_refusal(l: Log) -> Refusal
 fn log_refusal(l: Log) -> Refusal
     ensures { λ r. ⌜ r ≡ Base.first (when (unusedFields l) 2) (firstWrong 1 (take (l .count) (l .rows))) ⌝ }
 {
-    first(unused_refusal(l), rows_refusal(l))
+    let two = unused_refusal(l);
+    let three = rows_refusal(l);
+    first(two, three)
 }
 
 fn write_log(l: Log, buf: &mut [u8])

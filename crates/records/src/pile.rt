@@ -106,7 +106,9 @@ fn method_refusal(p: Pile) -> Refusal
 fn pile_refusal(p: Pile) -> Refusal
     ensures { λ r. ⌜ r ≡ pileChecks p ⌝ }
 {
-    first(section_refusal(p), method_refusal(p))
+    let five = section_refusal(p);
+    let six = method_refusal(p);
+    first(five, six)
 }
 
 fn no_pile(r: Refusal) -> PileRead
