@@ -10,21 +10,8 @@ use Rattle.rules.specs.Sheet.{decimal, spaced, textLine, answerWord, sliceWord,
 use Rattle.rules.specs.declared.Answer.{Answer}
 use Rattle.rules.specs.declared.Slice.{Slice}
 use Rattle.layout.specs.Sheets.{SliceHeld, RefusalHeld, AllHeld}
-use Rattle.layout.proofs.DigitLaws.{length-decimal, length-below}
-
--- a number with its space, of at most k + 1 digits
-spaced-cons : (x : ℕ) (xs : List ℕ) → length (spaced (x ∷ xs)) ≡ 1 + length (decimal x) + length (spaced xs)
-unfolding spaced
-spaced-cons x xs = omega (arith, length-append (decimal x) (spaced xs))
-
-spaced-nil : length (spaced []) ≡ 0
-unfolding spaced
-spaced-nil = refl
-
--- each number takes at most 21 bytes with its space
-pub length-spaced : (xs : List ℕ) → length (spaced xs) ≤ 21 * length xs
-length-spaced [] = omega (arith, spaced-nil)
-length-spaced (x ∷ xs) = omega (arith, spaced-cons x xs, length-decimal x, length-spaced xs)
+use Rattle.writing.proofs.DigitLaws.{length-below}
+use Rattle.writing.proofs.SpacedLaws.{spaced-cons, spaced-nil, length-spaced}
 
 length-line : (word xs : List ℕ) → length (textLine word xs) ≡ length word + length (spaced xs) + 1
 length-line word xs = length-append (word ++ spaced xs) (10 ∷ []) ∙ ap (λ (n : ℕ). n + 1) (length-append word (spaced xs))

@@ -1,6 +1,4 @@
 -- The laws that the proofs of the functions, and the sheet program's, cite.
-pub mod PutLaws
-pub mod DigitLaws
 pub mod LineLaws
 pub mod LengthLaws
 pub mod SheetLaws

@@ -1,4 +1,4 @@
--- Laws of the sheet's lines: how a line is put, number by number, and what a buffer holds after it.
+-- Laws of the sheet's lines: how a line is put, and what a buffer holds after it.
 use mathlib.Core.Path.{_≡_, refl, sym, _∙_, ap}
 use mathlib.Core.Logic.{⊎-elim}
 use mathlib.Core.List.{List, [], _∷_, _++_}
@@ -9,22 +9,10 @@ use lib.ListN.{length, getD, drop, set, length-append, drop-of-length-le}
 use lib.Seq.{drop-cons}
 use borrow.Author.Tests.{le-leb, lt-leb}
 use Rattle.rules.specs.Sheet.{decimal, spaced, textLine}
-use Rattle.layout.specs.Text.{putAt, Put, lineRoom, lineAfter, lineEnd, LinePut, Holds}
-use Rattle.layout.proofs.PutLaws.{put-then, put-one, take-put, length-put, Putting, putting-more, putting-end}
-use Rattle.layout.proofs.DigitLaws.{split}
-
-spaced-more : (xs : List ℕ) (i : ℕ) → i < length xs → spaced (drop i xs) ≡ (32 ∷ decimal (getD xs i 0)) ++ spaced (drop (i + 1) xs)
-unfolding spaced
-spaced-more xs i h = rw (add-one i, drop-cons xs i 0 h)
-
--- a turn of the loop that puts numbers: a space, and number i
-pub number-more : (old : List ℕ) (at : ℕ) (xs text buf after : List ℕ) (place next i : ℕ) → i < length xs → Putting old at text (spaced (drop i xs)) buf place → Put (set buf place 32) (place + 1) (decimal (getD xs i 0)) after next → Putting old at text (spaced (drop (i + 1) xs)) after next
-number-more old at xs text buf after place next i h p q =
-    putting-more (rw (spaced-more xs i h) at p) (put-then (put-one buf place 32) q)
-
-pub number-end : (old : List ℕ) (at : ℕ) (xs text buf : List ℕ) (next i : ℕ) → length xs ≤ i → Putting old at text (spaced (drop i xs)) buf next → Put old at text buf next
-unfolding spaced
-number-end old at xs text buf next i h p = putting-end (rw (drop-of-length-le xs h) at p)
+use Rattle.writing.specs.Text.{putAt, Put}
+use Rattle.layout.specs.Lines.{lineRoom, lineAfter, lineEnd, LinePut, Holds}
+use Rattle.writing.proofs.PutLaws.{put-then, put-one, take-put, length-put}
+use Rattle.writing.proofs.DigitLaws.{split}
 
 pub text-put : {buf : List ℕ} {at : ℕ} {word mid after : List ℕ} {place next : ℕ} (xs : List ℕ) → Put buf at word mid place → Put mid place (spaced xs) after next → Put buf at (textLine word xs) (set after next 10) (next + 1)
 text-put {after = after} {next = next} xs p q = put-then (put-then p q) (put-one after next 10)

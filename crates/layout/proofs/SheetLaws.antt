@@ -11,7 +11,7 @@ use Rattle.rules.specs.Base.{refuses}
 use Rattle.rules.specs.Sheet.{answerLine, sliceLine, totalLine, sliceLines, sheetOf}
 use Rattle.rules.specs.declared.Answer.{Answer}
 use Rattle.rules.specs.declared.Slice.{Slice}
-use Rattle.layout.specs.Text.{lineRoom, LinePut, Holds}
+use Rattle.layout.specs.Lines.{lineRoom, LinePut, Holds}
 use Rattle.layout.specs.Sheets.{sheetTo}
 use Rattle.layout.proofs.LineLaws.{holds-none, holds-line}
 use Rattle.layout.proofs.LengthLaws.{length-answer, length-slice, length-total}

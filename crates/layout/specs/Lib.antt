@@ -1,4 +1,3 @@
--- What it is to put text into a buffer, a number's digits, and a sheet while it is put together.
-pub mod Text
-pub mod Digits
+-- What it is to put a line into a buffer, and a sheet while it is put together.
+pub mod Lines
 pub mod Sheets

@@ -2,7 +2,7 @@
 use native.Mathlib.Omega.{arith}
 use lib.ListN.{length-set}
 use Rattle.layout.proofs.LineLaws.{text-put, line-put, line-none}
-use Rattle.layout.proofs.LengthLaws.{length-spaced}
+use Rattle.writing.proofs.SpacedLaws.{length-spaced}
 use borrow.Author.Needs.{needs}
 use Rattle.layout.proofs.put_line.Statement.{statement}
 use Rattle.layout.proofs.put_line.Tie as tie

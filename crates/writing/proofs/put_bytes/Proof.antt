@@ -2,12 +2,12 @@
 use Prim.Native.Nat.{_+_, _-_, _≤_}
 use mathlib.Core.Path.{_≡_, refl, _∙_}
 use lib.ListN.{length, drop, length-set}
-use Rattle.layout.specs.Text.{putAt}
-use Rattle.layout.proofs.PutLaws.{put-more, put-start, put-end}
+use Rattle.writing.specs.Text.{putAt}
+use Rattle.writing.proofs.PutLaws.{put-more, put-start, put-end}
 use native.Mathlib.Omega.{arith}
 use borrow.Author.Needs.{needs}
-use Rattle.layout.proofs.put_bytes.Statement.{statement}
-use Rattle.layout.proofs.put_bytes.Tie as tie
+use Rattle.writing.proofs.put_bytes.Statement.{statement}
+use Rattle.writing.proofs.put_bytes.Tie as tie
 
 abbrev Inv-loop : tie.InvT-loop
 Inv-loop buf₀ at text i₀ buf i =

@@ -1,9 +1,9 @@
 -- `digit_count` counts as many digits as the definition has. The invariant is that of `Counting`.
-use Rattle.layout.proofs.DigitLaws.{Counting, count-start, count-more, count-end}
+use Rattle.writing.proofs.DigitLaws.{Counting, count-start, count-more, count-end}
 use native.Mathlib.Omega.{arith}
 use borrow.Author.Needs.{needs}
-use Rattle.layout.proofs.digit_count.Statement.{statement}
-use Rattle.layout.proofs.digit_count.Tie as tie
+use Rattle.writing.proofs.digit_count.Statement.{statement}
+use Rattle.writing.proofs.digit_count.Tie as tie
 
 abbrev Inv-loop : tie.InvT-loop
 Inv-loop x n₀ left₀ n left = Counting x n left

@@ -1,8 +1,8 @@
 -- `put_decimal` puts a number's digits: as many of its last digits as it has.
-use Rattle.layout.proofs.DigitLaws.{digits-put}
+use Rattle.writing.proofs.DigitLaws.{digits-put}
 use borrow.Author.Needs.{needs}
-use Rattle.layout.proofs.put_decimal.Statement.{statement}
-use Rattle.layout.proofs.put_decimal.Tie as tie
+use Rattle.writing.proofs.put_decimal.Statement.{statement}
+use Rattle.writing.proofs.put_decimal.Tie as tie
 
 digit-count-requires : tie.Need-digit-count-requires
 digit-count-requires c κs = search needs

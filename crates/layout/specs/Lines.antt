@@ -1,21 +1,12 @@
--- Text put into a buffer at a place, and a line put where there is room for it.
+-- A line put into a buffer where there is room for it, and a buffer that holds a text so far.
 use mathlib.Core.Bool.{Bool}
 use mathlib.Core.Path.{_≡_}
-use mathlib.Core.List.{List, [], _∷_}
+use mathlib.Core.List.{List}
 use Prim.Native.Nat.{ℕ, _+_, _≤_}
 use lib.Dec.{leb}
-use lib.ListN.{length, take, set}
+use lib.ListN.{length, take}
 use Rattle.rules.specs.Base.{pick}
-
--- the bytes of a text stored one after another, the first at the place
-unfoldable pub putAt : List ℕ → ℕ → List ℕ → List ℕ
-putAt buf at [] = buf
-putAt buf at (b ∷ text) = putAt (set buf at b) (at + 1) text
-
--- what a function that puts a text leaves and hands back: the buffer with the text, and the place behind it
-pub record Put (buf : List ℕ) (at : ℕ) (text after : List ℕ) (next : ℕ) : Type 0 where
-  pub bytes : after ≡ putAt buf at text
-  pub place : next ≡ at + length text
+use Rattle.writing.specs.Text.{putAt}
 
 -- a line is put only where so many bytes are left, which is more than any line has
 abbrev pub lineRoom : ℕ

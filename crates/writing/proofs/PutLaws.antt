@@ -7,7 +7,7 @@ use native.Mathlib.Numerals.{add-one}
 use native.Mathlib.Omega.{arith}
 use lib.ListN.{length, getD, take, drop, set, length-set, length-append, drop-of-length-le}
 use lib.Seq.{sets, sets-eq, set-comm, drop-cons, take-at, length-take-le}
-use Rattle.layout.specs.Text.{putAt, Put}
+use Rattle.writing.specs.Text.{putAt, Put}
 
 pub put-nil : (buf : List ℕ) (at : ℕ) → putAt buf at [] ≡ buf
 unfolding putAt

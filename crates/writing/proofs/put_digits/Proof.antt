@@ -2,14 +2,14 @@
 use Prim.Native.Nat.{ℕ, _-_, _≤_}
 use mathlib.Core.Path.{_≡_, refl, ap}
 use lib.ListN.{length, length-set}
-use Rattle.layout.specs.Text.{putAt}
-use Rattle.layout.specs.Digits.{lastDigits}
-use Rattle.layout.proofs.DigitLaws.{fill-more, fill-end}
+use Rattle.writing.specs.Text.{putAt}
+use Rattle.writing.specs.Digits.{lastDigits}
+use Rattle.writing.proofs.DigitLaws.{fill-more, fill-end}
 use native.Mathlib.Nat.{sub-zero}
 use native.Mathlib.Omega.{arith}
 use borrow.Author.Needs.{needs}
-use Rattle.layout.proofs.put_digits.Statement.{statement}
-use Rattle.layout.proofs.put_digits.Tie as tie
+use Rattle.writing.proofs.put_digits.Statement.{statement}
+use Rattle.writing.proofs.put_digits.Tie as tie
 
 abbrev Inv-loop : tie.InvT-loop
 Inv-loop buf₀ at n x done₀ left₀ buf done left =

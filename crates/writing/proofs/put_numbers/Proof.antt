@@ -4,12 +4,12 @@ use mathlib.Core.Path.{_≡_, refl, _∙_}
 use native.Mathlib.Omega.{arith}
 use lib.ListN.{length, drop, getD, length-set}
 use Rattle.rules.specs.Sheet.{spaced}
-use Rattle.layout.proofs.PutLaws.{Putting, putting-start}
-use Rattle.layout.proofs.DigitLaws.{length-decimal}
-use Rattle.layout.proofs.LineLaws.{number-more, number-end}
+use Rattle.writing.proofs.PutLaws.{Putting, putting-start}
+use Rattle.writing.proofs.DigitLaws.{length-decimal}
+use Rattle.writing.proofs.SpacedLaws.{number-more, number-end}
 use borrow.Author.Needs.{needs}
-use Rattle.layout.proofs.put_numbers.Statement.{statement}
-use Rattle.layout.proofs.put_numbers.Tie as tie
+use Rattle.writing.proofs.put_numbers.Statement.{statement}
+use Rattle.writing.proofs.put_numbers.Tie as tie
 
 abbrev Inv-loop : tie.InvT-loop
 Inv-loop buf₀ at xs i₀ next₀ buf i next =

@@ -9,9 +9,9 @@ use lib.Dec.{ltb}
 use lib.ListN.{length, getD, set, length-append, List·getD-append}
 use borrow.Author.Tests.{ltb-true, ltb-false, lt-ltb, le-ltb}
 use Rattle.rules.specs.Sheet.{digitsFrom, decimal}
-use Rattle.layout.specs.Text.{putAt, Put}
-use Rattle.layout.specs.Digits.{lastDigits, readFrom, valueOf}
-use Rattle.layout.proofs.PutLaws.{put-nil, put-last}
+use Rattle.writing.specs.Text.{putAt, Put}
+use Rattle.writing.specs.Digits.{lastDigits, readFrom, valueOf}
+use Rattle.writing.proofs.PutLaws.{put-nil, put-last}
 
 pub split : (a b : ℕ) → (a < b) ⊎ (b ≤ a)
 split a b = go (ltb a b) refl
