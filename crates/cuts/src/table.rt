@@ -29,7 +29,7 @@ pub(crate) fn put_slice(table: &mut [u8], place: usize, c: Slice)
     requires { ⌜ (place < placeLimit) × (length (now table) ≡ tableSize) ⌝ }
     ensures { λ _. ⌜ now (table .exit) ≡ putAt (now (table .entry)) place c ⌝ }
 {
-    let packed = records::slice_bytes(c);
+    let packed = slices::slice_bytes(c);
     let at = place * SLICE_SIZE;
     let mut j: usize = 0;
     while j < SLICE_SIZE {

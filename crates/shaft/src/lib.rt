@@ -60,14 +60,14 @@ pub fn cut_shaft(log: &[u8], pile: Pile, table: &mut [u8]) -> Shaft
     let mut at = pile.head as u64;
     // The row that comes next is read once, and kept until it joins.
     let mut next: usize = 0;
-    let mut row = records::read_row(log, 1);
+    let mut row = rows::read_row(log, 1);
     while at < tip {
         if next < n {
             if joins(soil, bottom, at, row) {
                 soil = soil_of(row);
                 bottom += row.thickness as u64;
                 next += 1;
-                row = records::read_row(log, 1 + next * ROW_SIZE);
+                row = rows::read_row(log, 1 + next * ROW_SIZE);
                 continue;
             }
         }

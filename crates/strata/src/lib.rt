@@ -65,7 +65,7 @@ pub fn stratum_at(log: &[u8], m: u64) -> Stratum
     let mut bottom: u64 = 0;
     let mut i: usize = 0;
     while i < n {
-        let r = records::read_row(log, 1 + i * ROW_SIZE);
+        let r = rows::read_row(log, 1 + i * ROW_SIZE);
         let s = soil_of(r);
         top = run_top(soil, s, top, bottom);
         soil = s;
