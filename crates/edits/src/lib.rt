@@ -1,10 +1,5 @@
 // The four edits of a lent log: their refusals in order, the log as it then stands, its answer and table, and kept.
-mod change;
-mod checks;
-
 use calculation::Worked;
-use change::change;
-use checks::edit_refusal;
 use rules::Answer;
 use rules::Refusal;
 ghost use mathlib.Core.Path.{_≡_};
@@ -13,7 +8,7 @@ ghost use lib.ListN.{length};
 ghost use Rattle.rules.specs.Limits.{placeLimit, tableSize};
 ghost use Rattle.rules.specs.Edits.{kept, withKept, editReply, editLog, editTable};
 ghost use Rattle.rules.specs.Answers as answers;
-ghost use Rattle.edits.specs.Asked.{asked};
+ghost use Rattle.edited.specs.Asked.{asked};
 
 fn refused(refusal: Refusal) -> Answer
     ensures { λ r. ⌜ r ≡ answers.refused refusal ⌝ }
@@ -36,8 +31,8 @@ fn hold(work: Worked, table: &mut [u8]) -> Answer
     ensures { λ _. ⌜ now (table .exit) ≡ work .bytes ⌝ }
 {
     let bytes = work.bytes;
-    let kept = moves::kept_count(bytes, table, work.used);
-    moves::store(table, bytes);
+    let kept = kept::kept_count(bytes, table, work.used);
+    kept::store(table, bytes);
     let mut answer = work.answer;
     answer.kept = kept as u32;
     answer
@@ -57,11 +52,11 @@ pub fn edit(
     ensures { λ _. ⌜ now (log .exit) ≡ editLog (asked kind k x (now (row .entry))) (now (log .entry)) (now (pile .entry)) (now (table .entry)) ⌝ }
     ensures { λ _. ⌜ now (table .exit) ≡ editTable (asked kind k x (now (row .entry))) (now (log .entry)) (now (pile .entry)) (now (table .entry)) ⌝ }
 {
-    let refusal = edit_refusal(log, pile, table, kind, k, x, row);
+    let refusal = edit_checks::edit_refusal(log, pile, table, kind, k, x, row);
     if 0 < refusal.number {
         return refused(refusal);
     }
-    change(log, kind, k, x, row);
+    changes::change(log, kind, k, x, row);
     let read = records::read_log(log);
     let work = calculation::work_out(read.log, pile);
     hold(work, table)

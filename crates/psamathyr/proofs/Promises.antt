@@ -28,7 +28,7 @@ use Rattle.rules.proofs.Replies as Replies
 use Rattle.records.proofs.RoundTrip as RoundTrip
 use Rattle.records.specs.Fits.{Bytes, SliceFits}
 use Rattle.calculation.proofs.Promise as Calculation
-use Rattle.edits.specs.Asked.{asked}
+use Rattle.edited.specs.Asked.{asked}
 use Rattle.edits.proofs.Promise as Edits
 
 -- Demand 1. "Every log, pile record, slice table and edit, however damaged, gets a reply": no contract of the door has a condition.

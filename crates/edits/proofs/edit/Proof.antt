@@ -1,6 +1,6 @@
 -- edit: a refused one leaves everything; an accepted one changes the log, which is then read, worked out and held.
 use native.Mathlib.Omega.{arith}
-use Rattle.edits.specs.Asked.{asked}
+use Rattle.edited.specs.Asked.{asked}
 use Rattle.edits.proofs.ReplyLaws.{refused-edit, Accepted, accepted, read-good, few, accepted-edit}
 use borrow.Author.Needs.{needs}
 use Rattle.edits.proofs.edit.Statement.{statement}
