@@ -81,7 +81,7 @@ pub fn work_out(log: Log, pile: &[u8]) -> Worked
     requires { ⌜ Good log × (length (now pile) ≡ pileSize) ⌝ }
     ensures { λ r. ⌜ r ≡ workedOut (usedRows log) (pileOf (now (pile .entry))) ⌝ }
 {
-    let read = records::read_pile(pile);
+    let read = piles::read_pile(pile);
     let refusal = read.refusal;
     if refusal.number != 0 {
         return no_work(refusal);
@@ -98,7 +98,7 @@ pub fn work_out(log: Log, pile: &[u8]) -> Worked
 pub fn checked_log(log: &[u8]) -> LogRead
     ensures { λ r. ⌜ r ≡ checkedLog (now (log .entry)) ⌝ }
 {
-    let read = records::read_log(log);
+    let read = logs::read_log(log);
     let refusal = read.refusal;
     if refusal.number != 0 {
         return read;

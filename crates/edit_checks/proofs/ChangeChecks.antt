@@ -13,7 +13,7 @@ use Rattle.rules.specs.Packed.{countOf, rowsOf}
 use Rattle.rules.specs.Checks.{depthOf}
 use Rattle.rules.specs.Edits.{stands, newRowCheck, changeChecks, editedLog}
 use Rattle.rules.proofs.RefusalLaws.{first-left, first-right, when-true, when-false}
-use Rattle.records.specs.Fits.{Bytes}
+use Rattle.bits.specs.Fits.{Bytes}
 use Rattle.edited.specs.Asked.{asked, Brought, Passed, full, goes, comes}
 use Rattle.edited.proofs.StandLaws.{Standing, standing}
 use Rattle.edited.proofs.EditLaws.{Lent, lent, Left}

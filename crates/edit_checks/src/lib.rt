@@ -3,7 +3,6 @@ use rules::Refusal;
 use shaft::TABLE_SIZE;
 ghost use mathlib.Core.Path.{_≡_};
 ghost use Prim.Native.Nat.{_≤_, _<_};
-ghost use Rattle.rules.specs.Base as base;
 ghost use Rattle.rules.specs.Edits as rule;
 ghost use Rattle.edited.specs.Asked.{asked, Brought, Passed, goes, comes};
 
@@ -14,16 +13,6 @@ const PILE_SIZE: usize = 8;
 const ROW_SIZE: usize = 5;
 
 const DEPTH_LIMIT: u64 = 60000;
-
-fn refuse(n: u32) -> Refusal
-    ensures { λ r. ⌜ r ≡ base.refuse n ⌝ }
-{
-    Refusal {
-        number: n,
-        row: 0,
-        field: 0,
-    }
-}
 
 // Check 1, of every piece that the edit's kind uses.
 fn lengths_wrong(log: &[u8], pile: &[u8], table: &[u8], kind: u32, row: &[u8]) -> bool
@@ -49,9 +38,9 @@ fn new_row_refusal(kind: u32, k: u32, row: &[u8]) -> Refusal
     ensures { λ r. ⌜ r ≡ rule.newRowCheck (asked kind k 0 (now (row .entry))) ⌝ }
 {
     if !naming::brings(kind) {
-        return refuse(0);
+        return replies::refuse(0);
     }
-    let f = records::row_field(records::read_row(row, 0));
+    let f = rows::row_field(rows::read_row(row, 0));
     if 0 < f {
         return Refusal {
             number: 3,
@@ -59,7 +48,7 @@ fn new_row_refusal(kind: u32, k: u32, row: &[u8]) -> Refusal
             field: f,
         };
     }
-    refuse(0)
+    replies::refuse(0)
 }
 
 // The thickness that goes.
@@ -83,7 +72,7 @@ fn come(kind: u32, row: &[u8]) -> u64
     if !naming::brings(kind) {
         return 0;
     }
-    let new = records::read_row(row, 0);
+    let new = rows::read_row(row, 0);
     new.thickness as u64
 }
 
@@ -93,19 +82,19 @@ fn change_refusal(log: &[u8], depth: u64, kind: u32, k: u32, x: u32, row: &[u8])
     ensures { λ r. ⌜ r ≡ rule.changeChecks (asked kind k x (now (row .entry))) (now (log .entry)) ⌝ }
 {
     if !naming::stands(log, kind, k, x) {
-        return refuse(13);
+        return replies::refuse(13);
     }
     if naming::full(log, kind) {
-        return refuse(14);
+        return replies::refuse(14);
     }
     let new = new_row_refusal(kind, k, row);
     if 0 < new.number {
         return new;
     }
     if DEPTH_LIMIT < depth - gone(log, kind, k) + come(kind, row) {
-        return refuse(4);
+        return replies::refuse(4);
     }
-    refuse(0)
+    replies::refuse(0)
 }
 
 // All of them. The log is read once for checks 2 to 4, and the new log's depth comes from the lent one's.
@@ -121,7 +110,7 @@ pub fn edit_refusal(
     ensures { λ r. ⌜ r ≡ rule.editChecks (asked kind k x (now (row .entry))) (now (log .entry)) (now (pile .entry)) (now (table .entry)) ⌝ }
 {
     if lengths_wrong(log, pile, table, kind, row) {
-        return refuse(1);
+        return replies::refuse(1);
     }
     let read = calculation::checked_log(log);
     let refusal = read.refusal;

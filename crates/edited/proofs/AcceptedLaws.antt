@@ -12,7 +12,7 @@ use Rattle.rules.specs.Packed.{countOf, rowAt, rowsOf}
 use Rattle.rules.specs.Checks.{wrongField, depthOf}
 use Rattle.rules.specs.Edits.{Edit, brings, grows, stands, newRowCheck, changeChecks, editedLog}
 use Rattle.rules.proofs.RefusalLaws.{first-off, when-off}
-use Rattle.records.specs.Fits.{Bytes}
+use Rattle.bits.specs.Fits.{Bytes}
 use Rattle.edited.specs.Asked.{asked, Brought, full, goes, comes}
 use Rattle.edited.proofs.RowListLaws.{pick-fit}
 use Rattle.edited.proofs.StandLaws.{Standing, replaces, inserts, removes, splits, room}

@@ -9,8 +9,9 @@ use Rattle.rules.specs.declared.Row.{Row}
 use Rattle.rules.specs.Limits.{rowSize, rowLimit, logSize}
 use Rattle.rules.specs.Packed.{rowAt, rowsOf, countOf, rowBytes}
 use Rattle.rules.specs.Edits.{placeByte, rowNamed, moved, upTo, fromRow, part, replacedLog, insertedLog, removedLog, splitLog}
-use Rattle.records.specs.Fits.{Bytes, RowFits}
-use Rattle.records.proofs.RoundTrip.{row-packed-read}
+use Rattle.bits.specs.Fits.{Bytes}
+use Rattle.rows.specs.Fits.{RowFits}
+use Rattle.rows.proofs.RowTrip.{row-packed-read}
 use Rattle.edited.specs.Divided.{dividedLog}
 use Rattle.edited.proofs.RowLaws.{row-fits, part-fits, bytes-row, length-row}
 use Rattle.edited.proofs.RowsLaws.{rowsIn, rows-are, take-rows, drop-rows, rows-front, rows-join, bytes-drop, bytes-take, bytes-append, bytes-zero}

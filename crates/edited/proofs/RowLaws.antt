@@ -8,9 +8,9 @@ use Rattle.rules.specs.declared.Row.{Row}
 use Rattle.rules.specs.Limits.{rowSize}
 use Rattle.rules.specs.Packed.{bitsAt, rowAt, rowBytes}
 use Rattle.rules.specs.Edits.{part}
-use Rattle.records.specs.Fits.{Bytes, RowFits}
-use Rattle.records.proofs.RoundTrip.{row-packed-read}
-use Rattle.records.proofs.RowTrip.{row-back}
+use Rattle.bits.specs.Fits.{Bytes}
+use Rattle.rows.specs.Fits.{RowFits}
+use Rattle.rows.proofs.RowTrip.{row-back, row-packed-read}
 
 pub row-fits : (s : List ℕ) (at : ℕ) → RowFits (rowAt s at)
 unfolding bitsAt

@@ -9,8 +9,8 @@ use lib.Seq.{getD-drop, drop-drop, drop-append-le}
 use Rattle.rules.specs.declared.Row.{Row}
 use Rattle.rules.specs.Limits.{rowSize}
 use Rattle.rules.specs.Packed.{rowAt, rowsFrom, rowsOf, countOf}
-use Rattle.records.specs.Fits.{Bytes}
-use Rattle.records.proofs.BitLaws.{row-part}
+use Rattle.bits.specs.Fits.{Bytes}
+use Rattle.rows.proofs.RowLaws.{row-part}
 use Rattle.edited.proofs.RowLaws.{row-front}
 
 pub bytes-drop : (n : ℕ) (s : List ℕ) → Bytes s → Bytes (drop n s)

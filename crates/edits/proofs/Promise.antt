@@ -18,7 +18,7 @@ use Rattle.rules.specs.Calculation.{freshAnswer, freshTable, lengthsWrong, lent
 use Rattle.rules.specs.Edits.{Edit, editLengths, changeChecks, editChecks, splitLog, editedLog, editAnswer, editReply, editTable, usedSlices, kept, withKept}
 use Rattle.rules.proofs.RefusalLaws.{first-off, first-none, when-off, when-false, either-left}
 use Rattle.rules.proofs.AnswerLaws.{only-millimetres}
-use Rattle.records.specs.Fits.{Bytes}
+use Rattle.bits.specs.Fits.{Bytes}
 use Rattle.edited.specs.Asked.{asked}
 use Rattle.edited.proofs.StandLaws.{Standing, replaces, inserts, removes, splits, standing, room}
 use Rattle.edited.proofs.EditLaws.{Lent, lent, split-same-ground}

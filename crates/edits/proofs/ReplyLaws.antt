@@ -20,7 +20,7 @@ use Rattle.rules.specs.Answers.{refused}
 use Rattle.rules.specs.Calculation.{lengthsWrong, freshAnswer, freshTable}
 use Rattle.rules.specs.Edits.{Edit, brings, stands, changeChecks, editedLog, editLengths, editChecks, editAnswer, editReply, editLog, editTable, sameBytes, kept, withKept}
 use Rattle.rules.proofs.RefusalLaws.{first-left, first-right, first-off, first-none, when-off, when-false, either-left, either-right}
-use Rattle.records.specs.Fits.{Bytes}
+use Rattle.bits.specs.Fits.{Bytes}
 use Rattle.shaft.specs.Log.{usedRows, Placed, Good}
 use Rattle.calculation.specs.declared.Worked.{Worked}
 use Rattle.calculation.specs.Work.{workedOut, checkedLog}

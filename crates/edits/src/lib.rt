@@ -1,28 +1,12 @@
 // The four edits of a lent log: their refusals in order, the log as it then stands, its answer and table, and kept.
 use calculation::Worked;
 use rules::Answer;
-use rules::Refusal;
 ghost use mathlib.Core.Path.{_≡_};
 ghost use Prim.Native.Nat.{_≤_};
 ghost use lib.ListN.{length};
 ghost use Rattle.rules.specs.Limits.{placeLimit, tableSize};
 ghost use Rattle.rules.specs.Edits.{kept, withKept, editReply, editLog, editTable};
-ghost use Rattle.rules.specs.Answers as answers;
 ghost use Rattle.edited.specs.Asked.{asked};
-
-fn refused(refusal: Refusal) -> Answer
-    ensures { λ r. ⌜ r ≡ answers.refused refusal ⌝ }
-{
-    Answer {
-        refusal: refusal,
-        kept: 0,
-        line: 0,
-        tip: 0,
-        shaft: 0,
-        capacity: 0,
-        uplift: 0,
-    }
-}
 
 // Kept is counted against the table as it was lent; then the table takes what was worked out.
 fn hold(work: Worked, table: &mut [u8]) -> Answer
@@ -54,10 +38,10 @@ pub fn edit(
 {
     let refusal = edit_checks::edit_refusal(log, pile, table, kind, k, x, row);
     if 0 < refusal.number {
-        return refused(refusal);
+        return replies::refused(refusal);
     }
     changes::change(log, kind, k, x, row);
-    let read = records::read_log(log);
+    let read = logs::read_log(log);
     let work = calculation::work_out(read.log, pile);
     hold(work, table)
 }

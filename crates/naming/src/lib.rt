@@ -57,7 +57,7 @@ pub fn named_row(log: &[u8], k: u32) -> Row
     ensures { λ r. ⌜ r ≡ rule.rowNamed (now (log .entry)) k ⌝ }
 {
     let at = 1 + (k as usize - 1) * ROW_SIZE;
-    records::read_row(log, at)
+    rows::read_row(log, at)
 }
 
 fn split_stands(log: &[u8], n: u32, k: u32, x: u32) -> bool

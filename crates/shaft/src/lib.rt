@@ -168,7 +168,7 @@ fn put_slice(bytes: &mut [u8; TABLE_SIZE], place: usize, c: Slice)
     requires { ⌜ (place < placeLimit) × (length (now bytes) ≡ tableSize) ⌝ }
     ensures { λ _. ⌜ now (bytes .exit) ≡ take (place * sliceSize) (now (bytes .entry)) ++ sliceBytes c ++ drop (place * sliceSize + sliceSize) (now (bytes .entry)) ⌝ }
 {
-    let packed = records::slice_bytes(c);
+    let packed = slices::slice_bytes(c);
     let at = place * SLICE_SIZE;
     let mut j: usize = 0;
     while j < SLICE_SIZE {
