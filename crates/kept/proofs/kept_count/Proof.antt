@@ -9,16 +9,16 @@ use Rattle.kept.proofs.kept_count.Statement.{statement}
 use Rattle.kept.proofs.kept_count.Tie as tie
 
 abbrev Inv-loop : tie.InvT-loop
-Inv-loop lent used new slice j₀ j = (j ≤ 7) × (restSame new lent slice 0 ≡ restSame new lent slice j)
+Inv-loop new old used slice j₀ j = (j ≤ 7) × (restSame new old slice 0 ≡ restSame new old slice j)
 
 abbrev μ-loop : tie.MeasureT-loop
-μ-loop lent used new slice j₀ j = 7 - j
+μ-loop new old used slice j₀ j = 7 - j
 
 abbrev Inv-slices : tie.InvT-slices
-Inv-slices lent used new slice₀ slice = (slice ≤ used) × (slice + keptFrom used new lent slice ≡ kept used new lent)
+Inv-slices new old used slice₀ slice = (slice ≤ used) × (slice + keptFrom used new old slice ≡ kept used new old)
 
 abbrev μ-slices : tie.MeasureT-slices
-μ-slices lent used new slice₀ slice = used - slice
+μ-slices new old used slice₀ slice = used - slice
 
 slices-holds : tie.Need-slices-holds Inv-loop μ-loop Inv-slices μ-slices
 slices-holds c = (search needs, kept-begins _ _ _)
@@ -32,8 +32,8 @@ mul-if1 c = search needs
 add-if1 : tie.Need-add-if1 Inv-loop μ-loop Inv-slices μ-slices
 add-if1 c = search needs
 
-array-read-if1 : tie.Need-array-read-if1 Inv-loop μ-loop Inv-slices μ-slices
-array-read-if1 c = search needs
+shared-slice-read-if1 : tie.Need-shared-slice-read-if1 Inv-loop μ-loop Inv-slices μ-slices
+shared-slice-read-if1 c = search needs
 
 mul-if1-2 : tie.Need-mul-if1-2 Inv-loop μ-loop Inv-slices μ-slices
 mul-if1-2 c = search needs
@@ -41,8 +41,8 @@ mul-if1-2 c = search needs
 add-if1-2 : tie.Need-add-if1-2 Inv-loop μ-loop Inv-slices μ-slices
 add-if1-2 c = search needs
 
-shared-slice-read-if1 : tie.Need-shared-slice-read-if1 Inv-loop μ-loop Inv-slices μ-slices
-shared-slice-read-if1 c = search needs
+shared-slice-read-if1-2 : tie.Need-shared-slice-read-if1-2 Inv-loop μ-loop Inv-slices μ-slices
+shared-slice-read-if1-2 c = search needs
 
 add-j : tie.Need-add-j Inv-loop μ-loop Inv-slices μ-slices
 add-j c = search needs
@@ -53,7 +53,7 @@ loop-less c = search needs
 loop-again : tie.Need-loop-again Inv-loop μ-loop Inv-slices μ-slices
 loop-again c = (
   omega arith,
-  byte-same _ _ _ (c .before .before .before .loop .j) (omega arith) (omega arith) (omega arith) (c .before .before .before .loop .inv .1) (c .if1 .left),
+  byte-same _ _ _ (c .before .before .before .before .loop .j) (omega arith) (omega arith) (omega arith) (c .before .before .before .before .loop .inv .1) (c .if1 .left),
 )
 
 add-slice : tie.Need-add-slice Inv-loop μ-loop Inv-slices μ-slices
@@ -70,8 +70,8 @@ returns c = kept-ends _ _ _ _ (omega arith) (c .before .slices .inv .1)
 
 returns-2 : tie.Need-returns-2 Inv-loop μ-loop Inv-slices μ-slices
 returns-2 c =
-    byte-differs _ _ _ _ _ (omega arith) (omega arith) (omega arith) (omega arith) (c .before .before .before .loop .inv .1) (c .if1 .taken)
-    (c .before .before .before .before .before .slices .inv .1)
+    byte-differs _ _ _ _ _ (omega arith) (omega arith) (omega arith) (omega arith) (c .before .before .before .before .loop .inv .1) (c .if1 .taken)
+    (c .before .before .before .before .before .before .slices .inv .1)
 
 pub kept-count-spec : {M : Type 1} → statement M
 kept-count-spec =
@@ -85,10 +85,10 @@ kept-count-spec =
     loop-holds
     mul-if1
     add-if1
-    array-read-if1
+    shared-slice-read-if1
     mul-if1-2
     add-if1-2
-    shared-slice-read-if1
+    shared-slice-read-if1-2
     add-j
     loop-less
     loop-again
