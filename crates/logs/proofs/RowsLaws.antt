@@ -4,7 +4,7 @@ use mathlib.Core.Bool.{true, false}
 use mathlib.Core.List.{List, _∷_, _++_, append-assoc}
 use Prim.Native.Nat.{ℕ, zero, suc, _+_, _*_, _-_, _<_, _≤_}
 use native.Mathlib.Omega.{arith}
-use borrow.Author.Tests.{lt-ltb, le-ltb, eq-eqb, ne-eqb, ltb-false}
+use borrow.Author.Tests.{lt-ltb, le-ltb, eq-eqb, ltb-false}
 use lib.Dec.{eqb, ltb}
 use lib.ListN.{length, drop, replicate, set}
 use lib.Seq.{set-at}
@@ -140,15 +140,3 @@ rows-read s h w b =
 
 abbrev pub no : Refusal → LogRead
 no r = record { refusal = r; log = noLog }
-
-pub log-long : (s : List ℕ) → (length s ≡ logSize → ⊥) → no (refuse 1) ≡ readLog s
-unfolding readLog first when
-log-long s h = rw (ne-eqb _ _ h)
-
-pub log-count : (s : List ℕ) → length s ≡ logSize → countWrong (countOf s) ≡ true → no (refuse 2) ≡ readLog s
-unfolding readLog fieldChecks unusedWrong first when
-log-count s h w = rw (eq-eqb _ _ h, w)
-
-pub log-unused : (s : List ℕ) → length s ≡ logSize → countWrong (countOf s) ≡ false → allZero (drop (1 + countOf s * 5) s) ≡ false → no (refuse 2) ≡ readLog s
-unfolding readLog fieldChecks unusedWrong first when
-log-unused s h w b = rw (eq-eqb _ _ h, w, b)

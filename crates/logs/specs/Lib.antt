@@ -1,2 +1,3 @@
--- What reading a log needs beside document 01's definitions.
+-- What reading and checking a log need beside document 01's definitions.
+pub mod Checks
 pub mod Rows
