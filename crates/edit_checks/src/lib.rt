@@ -1,18 +1,32 @@
-// The refusals of an edit, in order: 1 to 4 of what is lent, 13, 14, 3 for the new row, 4 for the new log.
+// The refusals of an edit, in order: 1 to 4 of what is lent, 13, 14, 3 for the new row, 4 for the new log; and how deep the new log is.
+use logs::Checked;
 use rules::Refusal;
-use shaft::TABLE_SIZE;
 ghost use mathlib.Core.Path.{_≡_};
 ghost use Prim.Native.Nat.{_≤_, _<_};
+ghost use Rattle.rules.specs.Base.{refuse};
 ghost use Rattle.rules.specs.Edits as rule;
 ghost use Rattle.edited.specs.Asked.{asked, Brought, Passed, goes, comes};
+ghost use Rattle.edit_checks.specs.Checked.{changeChecked, editChecked};
 
 const LOG_SIZE: usize = 321;
 
 const PILE_SIZE: usize = 8;
 
+const TABLE_SIZE: usize = 581;
+
 const ROW_SIZE: usize = 5;
 
 const DEPTH_LIMIT: u64 = 60000;
+
+fn refused(n: u32) -> Checked
+    ensures { λ r. ⌜ r ≡ record { refusal = refuse n; depth = 0 } ⌝ }
+{
+    let refusal = replies::refuse(n);
+    Checked {
+        refusal: refusal,
+        depth: 0,
+    }
+}
 
 // Check 1, of every piece that the edit's kind uses.
 fn lengths_wrong(log: &[u8], pile: &[u8], table: &[u8], kind: u32, row: &[u8]) -> bool
@@ -76,29 +90,37 @@ fn come(kind: u32, row: &[u8]) -> u64
     new.thickness as u64
 }
 
-// Checks 13, 14, 3 and 4 of an edit of a log that passes.
-fn change_refusal(log: &[u8], depth: u64, kind: u32, k: u32, x: u32, row: &[u8]) -> Refusal
+// Checks 13, 14, 3 and 4 of an edit of a log that passes. The new log's depth comes from the lent one's.
+fn check_change(log: &[u8], depth: u64, kind: u32, k: u32, x: u32, row: &[u8]) -> Checked
     requires { ⌜ Passed (now log) depth × Brought kind (now row) ⌝ }
-    ensures { λ r. ⌜ r ≡ rule.changeChecks (asked kind k x (now (row .entry))) (now (log .entry)) ⌝ }
+    ensures { λ r. ⌜ r ≡ changeChecked (asked kind k x (now (row .entry))) (now (log .entry)) ⌝ }
 {
     if !naming::stands(log, kind, k, x) {
-        return replies::refuse(13);
+        return refused(13);
     }
     if naming::full(log, kind) {
-        return replies::refuse(14);
+        return refused(14);
     }
     let new = new_row_refusal(kind, k, row);
     if 0 < new.number {
-        return new;
+        return Checked {
+            refusal: new,
+            depth: 0,
+        };
     }
-    if DEPTH_LIMIT < depth - gone(log, kind, k) + come(kind, row) {
-        return replies::refuse(4);
+    let deep = depth - gone(log, kind, k) + come(kind, row);
+    if DEPTH_LIMIT < deep {
+        return refused(4);
     }
-    replies::refuse(0)
+    let passed = replies::refuse(0);
+    Checked {
+        refusal: passed,
+        depth: deep,
+    }
 }
 
-// All of them. The log is read once for checks 2 to 4, and the new log's depth comes from the lent one's.
-pub fn edit_refusal(
+// All of them. The lent log is read once for checks 2 to 4.
+pub fn check_edit(
     log: &[u8],
     pile: &[u8],
     table: &[u8],
@@ -106,16 +128,16 @@ pub fn edit_refusal(
     k: u32,
     x: u32,
     row: &[u8],
-) -> Refusal
-    ensures { λ r. ⌜ r ≡ rule.editChecks (asked kind k x (now (row .entry))) (now (log .entry)) (now (pile .entry)) (now (table .entry)) ⌝ }
+) -> Checked
+    ensures { λ r. ⌜ r ≡ editChecked (asked kind k x (now (row .entry))) (now (log .entry)) (now (pile .entry)) (now (table .entry)) ⌝ }
 {
     if lengths_wrong(log, pile, table, kind, row) {
-        return replies::refuse(1);
+        return refused(1);
     }
-    let read = calculation::checked_log(log);
-    let refusal = read.refusal;
+    let lent = logs::check_log(log);
+    let refusal = lent.refusal;
     if 0 < refusal.number {
-        return refusal;
+        return lent;
     }
-    change_refusal(log, shaft::depth_of(read.log), kind, k, x, row)
+    check_change(log, lent.depth, kind, k, x, row)
 }

@@ -1,60 +1,35 @@
 -- Laws of the reply: the checks of an edit in order, and the log, the table and the answer of an accepted one.
-use mathlib.Core.Path.{_≡_, refl, sym, _∙_, ap}
-use mathlib.Core.Bool.{Bool, true, false, true≢false}
+use mathlib.Core.Path.{_≡_, sym, _∙_, ap}
+use mathlib.Core.Bool.{true, false}
 use mathlib.Core.List.{List}
-use Prim.Native.Nat.{ℕ, zero, suc, _+_, _-_, _<_, _≤_}
-use native.Mathlib.Omega.{arith}
-use lib.Dec.{eqb}
-use lib.ListN.{length, take, drop}
-use borrow.Author.Tests.{ltb-false, lt-ltb, le-ltb, eqb-true}
+use Prim.Native.Nat.{ℕ, _+_, _-_, _<_, _≤_}
+use lib.ListN.{length}
+use borrow.Author.Tests.{lt-ltb, le-ltb}
 use Rattle.rules.specs.declared.Refusal.{Refusal}
 use Rattle.rules.specs.declared.Answer.{Answer}
-use Rattle.rules.specs.declared.LogRead.{LogRead}
-use Rattle.rules.specs.declared.Row.{Row}
-use Rattle.rules.specs.Base.{pick, both, either, neg, refuse, refuses, when, first}
-use Rattle.rules.specs.Limits.{rowSize, logSize, pileSize, tableSize, placeLimit, sliceSize}
-use Rattle.rules.specs.Packed.{rowsOf, pileOf}
-use Rattle.rules.specs.Checks.{longOther, depthOf, logChecks}
-use Rattle.rules.specs.Reading.{readLog}
+use Rattle.rules.specs.Base.{refuses, when, first}
+use Rattle.rules.specs.Limits.{logSize, pileSize, tableSize}
+use Rattle.rules.specs.Packed.{rowsOf}
+use Rattle.rules.specs.Checks.{depthOf, logChecks}
 use Rattle.rules.specs.Answers.{refused}
-use Rattle.rules.specs.Calculation.{lengthsWrong, freshAnswer, freshTable}
-use Rattle.rules.specs.Edits.{Edit, brings, stands, changeChecks, editedLog, editLengths, editChecks, editAnswer, editReply, editLog, editTable, sameBytes, kept, withKept}
-use Rattle.rules.proofs.RefusalLaws.{first-left, first-right, first-off, first-none, when-off, when-false, either-left, either-right}
+use Rattle.rules.specs.Calculation.{freshAnswer, freshTable}
+use Rattle.rules.specs.Edits.{Edit, changeChecks, editedLog, editLengths, editChecks, editAnswer, editReply, editLog, editTable, usedSlices, kept, withKept}
+use Rattle.rules.proofs.RefusalLaws.{first-off, when-off}
 use Rattle.bits.specs.Fits.{Bytes}
-use Rattle.shaft.specs.Log.{usedRows, Placed, Good}
-use Rattle.calculation.specs.declared.Worked.{Worked}
-use Rattle.calculation.specs.Work.{workedOut, checkedLog}
-use Rattle.calculation.proofs.ReadLaws.{good-log}
-use Rattle.calculation.proofs.TableLaws.{few-slices}
+use Rattle.logs.specs.declared.Checked.{Checked}
+use Rattle.strata.specs.Good.{Good}
+use Rattle.strata.proofs.GoodLaws.{good}
 use Rattle.edited.specs.Asked.{asked, Ready, goes, comes}
 use Rattle.edited.proofs.LengthLaws.{Long, long}
 use Rattle.edited.proofs.StandLaws.{standing}
 use Rattle.edited.proofs.EditLaws.{Lent, lent, Left, passes}
 use Rattle.edited.proofs.AcceptedLaws.{Free, free, left}
+use Rattle.edit_checks.specs.Checked.{editChecked}
 
--- kept is no more than there are slices
-pick-le : (t : Bool) (a n : ℕ) → a ≤ n → pick t a 0 ≤ n
-pick-le true a n h = h
-pick-le false a n h = omega arith
-
-kept-few : (n : ℕ) (new old : List ℕ) → kept n new old ≤ n
-unfolding kept
-kept-few zero new old = omega arith
-kept-few (suc n) new old =
-    pick-le (sameBytes (take sliceSize new) (take sliceSize old)) _ (suc n) (omega (arith, kept-few n (drop sliceSize new) (drop sliceSize old)))
-
-pub kept-fits : (r n : ℕ) (new old : List ℕ) → r ≡ kept n new old → n ≤ placeLimit → r < 4294967296
-kept-fits r n new old e h = omega (arith, kept-few n new old)
-
--- a log that passes is read as a log to work with
-pub good : (s : List ℕ) (r : LogRead) → r ≡ readLog s → length s ≡ logSize → refuses (logChecks s) ≡ false → Good (r .log) × (usedRows (r .log) ≡ rowsOf s)
-unfolding checkedLog
-good s r e l p =
-    let a : longOther logSize s ≡ false = rw l in
-    let n : refuses (checkedLog s .refusal) ≡ false = first-none _ _ (ap refuses (when-false 1 _ a)) p in
-    let m : checkedLog s .refusal .number ≤ 0 = ltb-false 0 (checkedLog s .refusal .number) n in
-    let g : Good (checkedLog s .log) × (usedRows (checkedLog s .log) ≡ rowsOf s) = good-log s (checkedLog s) refl (omega arith) in
-    rw e g
+-- the refusal that the checks reply
+pub said : (e : Edit) (log pile table : List ℕ) (r : Checked) → r ≡ editChecked e log pile table → r .refusal ≡ editChecks e log pile table
+unfolding editChecked
+said e log pile table r h = ap (λ (x : Checked). x .refusal) h
 
 -- "A refused edit .. changes no buffer."
 pub refused-edit : (e : Edit) (log pile table : List ℕ) (w : Refusal) (a : Answer) → w ≡ editChecks e log pile table → 0 < w .number → a ≡ refused w
@@ -95,22 +70,16 @@ accepted kind k x row log pile table w h n b c =
       passes = passes (editedLog e log) (new .unused) (new .fit) (f .deep);
     }
 
-module _ (e : Edit) (log pile table : List ℕ) (g : Accepted e log pile table) (s : List ℕ) (f : s ≡ editedLog e log) (r : LogRead) (h : r ≡ readLog s) where
-  read : Good (r .log) × (usedRows (r .log) ≡ rowsOf (editedLog e log))
-  read = good (editedLog e log) r (h ∙ ap readLog f) (g .size) (g .passes)
+-- the log after the change, its depth, and what is worked out of it
+module _ (e : Edit) (log pile table : List ℕ) (g : Accepted e log pile table) (s : List ℕ) (f : s ≡ editedLog e log) where
+  pub good-now : Good s
+  good-now = rw f (good (editedLog e log) (g .size) (g .passes))
 
-  pub read-good : Good (r .log)
-  read-good = read .0
+  pub depth-now : (r : Checked) → r ≡ editChecked e log pile table → r .depth ≡ depthOf (rowsOf s)
+  unfolding editChecked
+  depth-now r h = ap (λ (x : Checked). x .depth) h ∙ rw (g .checks, f)
 
-  module _ (v : Worked) (q : v ≡ workedOut (usedRows (r .log)) (pileOf pile)) where
-    is : v ≡ workedOut (rowsOf (editedLog e log)) (pileOf pile)
-    is = q ∙ ap (λ (rs : List Row). workedOut rs (pileOf pile)) (read .1)
-
-    pub few : v .used ≤ placeLimit
-    unfolding workedOut
-    few = rw is (few-slices (rowsOf (editedLog e log)) (pileOf pile))
-
-    pub accepted-edit : (a : Answer) (t : List ℕ) → a ≡ withKept (kept (v .used) (v .bytes) table) (v .answer) → t ≡ v .bytes
-        → (a ≡ editReply e log pile table) × ((s ≡ editLog e log pile table) × (t ≡ editTable e log pile table))
-    unfolding editReply editLog editTable editAnswer freshAnswer freshTable workedOut
-    accepted-edit a t d u = (rw (g .checks) (d ∙ rw is), (rw (g .checks) f, rw (g .checks) (u ∙ rw is)))
+  pub accepted-edit : (a : Answer) (n m : ℕ) (new old : List ℕ) → a ≡ freshAnswer s pile → n ≡ usedSlices s pile → new ≡ freshTable s pile → old ≡ table → m ≡ kept n new old
+      → (withKept m a ≡ editReply e log pile table) × ((s ≡ editLog e log pile table) × (new ≡ editTable e log pile table))
+  unfolding editReply editLog editTable editAnswer
+  accepted-edit a n m new old p q t u h = (rw (g .checks) (rw (h, p, q, t, u, f)), (rw (g .checks) f, rw (g .checks) (t ∙ rw f)))

@@ -27,7 +27,7 @@ pub fn table_copy(table: &[u8]) -> [u8; 581]
 // Of the used slices of the new table: it stops at the first whose bytes differ from the old table's.
 pub fn kept_count(new: &[u8], old: &[u8], used: usize) -> usize
     requires { ⌜ (used ≤ placeLimit) × (length (now new) ≡ tableSize) × (length (now old) ≡ tableSize) ⌝ }
-    ensures { λ r. ⌜ r ≡ kept used (now (new .entry)) (now (old .entry)) ⌝ }
+    ensures { λ r. ⌜ (r ≡ kept used (now (new .entry)) (now (old .entry))) × (r ≤ used) ⌝ }
 {
     let mut slice: usize = 0;
     'slices: while slice < used {

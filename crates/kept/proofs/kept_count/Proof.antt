@@ -66,12 +66,13 @@ slices-again : tie.Need-slices-again Inv-loop μ-loop Inv-slices μ-slices
 slices-again c = (omega arith, slice-same _ _ _ _ (c .before .loop .j) (omega arith) (omega arith) (c .before .loop .inv .1) (c .before .before .before .slices .inv .1))
 
 returns : tie.Need-returns Inv-loop μ-loop Inv-slices μ-slices
-returns c = kept-ends _ _ _ _ (omega arith) (c .before .slices .inv .1)
+returns c = (kept-ends _ _ _ _ (omega arith) (c .before .slices .inv .1), omega arith)
 
 returns-2 : tie.Need-returns-2 Inv-loop μ-loop Inv-slices μ-slices
-returns-2 c =
-    byte-differs _ _ _ _ _ (omega arith) (omega arith) (omega arith) (omega arith) (c .before .before .before .before .loop .inv .1) (c .if1 .taken)
-    (c .before .before .before .before .before .before .slices .inv .1)
+returns-2 c = (
+  byte-differs _ _ _ _ _ (omega arith) (omega arith) (omega arith) (omega arith) (c .before .before .before .before .loop .inv .1) (c .if1 .taken) (c .before .before .before .before .before .before .slices .inv .1),
+  omega arith,
+)
 
 pub kept-count-spec : {M : Type 1} → statement M
 kept-count-spec =

@@ -1,4 +1,4 @@
--- change_refusal: check by check; the new log is as deep as the lent one, less what goes and with what comes.
+-- check_change: check by check; the new log is as deep as the lent one, less what goes and with what comes.
 use mathlib.Core.Path.{_≡_, sym, _∙_}
 use mathlib.Core.Bool.{true, false}
 use mathlib.Core.List.{[]}
@@ -10,8 +10,8 @@ use Rattle.edited.specs.Asked.{asked, full}
 use Rattle.edited.proofs.StandLaws.{standing, named-low}
 use Rattle.edit_checks.proofs.ChangeChecks.{change-13, change-14, change-3, Allowed, allowed, over, not-over}
 use borrow.Author.Needs.{needs}
-use Rattle.edit_checks.proofs.change_refusal.Statement.{statement}
-use Rattle.edit_checks.proofs.change_refusal.Tie as tie
+use Rattle.edit_checks.proofs.check_change.Statement.{statement}
+use Rattle.edit_checks.proofs.check_change.Tie as tie
 
 -- 13 is past: the edit stands
 it-stands : (c : tie.Else1)
@@ -36,24 +36,24 @@ fair c =
 stands-requires : tie.Need-stands-requires
 stands-requires c κs = search needs
 
-refuse-requires : tie.Need-refuse-requires
-refuse-requires c κs = search needs
+refused-requires : tie.Need-refused-requires
+refused-requires c κs = search needs
 
 returns : tie.Need-returns
 returns c =
     let a = c .before .before .before .before .before .args in
-    c .refuse .ensures ∙ change-13 (a .kind) (a .k) (a .x) (a .row .now) (a .log .now) (sym (c .before .before .stands .ensures) ∙ not-true _ (c .before .if1 .taken))
+    c .refused .ensures ∙ change-13 (a .kind) (a .k) (a .x) (a .row .now) (a .log .now) (sym (c .before .before .stands .ensures) ∙ not-true _ (c .before .if1 .taken))
 
 full-requires : tie.Need-full-requires
 full-requires c κs = search needs
 
-refuse-requires-2 : tie.Need-refuse-requires-2
-refuse-requires-2 c κs = search needs
+refused-requires-2 : tie.Need-refused-requires-2
+refused-requires-2 c κs = search needs
 
 returns-2 : tie.Need-returns-2
 returns-2 c =
     let a = c .before .before .before .before .before .before .before .args in
-    c .refuse2 .ensures
+    c .refused2 .ensures
     ∙ change-14 (a .kind) (a .k) (a .x) (a .row .now) (a .log .now) (it-stands (c .before .before .before)) (sym (c .before .before .full .ensures) ∙ c .before .if2 .taken)
 
 new-row-refusal-requires : tie.Need-new-row-refusal-requires
@@ -69,48 +69,47 @@ gone-requires c κs =
     let a = c .before .before .before .before .before .before .before .before .before .args in
     named-low _ _ _ _ (standing (a .kind) (a .k) (a .x) [] (a .log .now) (it-stands (c .before .before .before .before .before)))
 
-sub-if4 : tie.Need-sub-if4
-sub-if4 c = omega (arith, fair (c .before) .less, c .gone .ensures)
+sub-deep : tie.Need-sub-deep
+sub-deep c = omega (arith, fair (c .before) .less, c .gone .ensures)
 
 come-requires : tie.Need-come-requires
 come-requires c κs = search needs
 
-add-if4 : tie.Need-add-if4
-add-if4 c = omega (arith, fair (c .before .before) .deep, c .come .ensures .1)
+add-deep : tie.Need-add-deep
+add-deep c = omega (arith, fair (c .before .before) .deep, c .come .ensures .1)
 
-refuse-requires-3 : tie.Need-refuse-requires-3
-refuse-requires-3 c κs = search needs
+refused-requires-3 : tie.Need-refused-requires-3
+refused-requires-3 c κs = search needs
 
 returns-4 : tie.Need-returns-4
 returns-4 c =
-    c .refuse3 .ensures
+    c .refused3 .ensures
     ∙ over _ _ _ _ _ _ (fair (c .before .before .before .before)) _ _ (c .before .before .before .gone .ensures) (c .before .before .come .ensures .0) (c .before .if4 .taken)
 
-refuse-requires-4 : tie.Need-refuse-requires-4
-refuse-requires-4 c κs = search needs
+refuse-requires : tie.Need-refuse-requires
+refuse-requires c κs = search needs
 
 returns-5 : tie.Need-returns-5
 returns-5 c =
-    c .refuse4 .ensures
-    ∙ not-over _ _ _ _ _ _ (fair (c .before .before .before .before)) _ _ (c .before .before .before .gone .ensures) (c .before .before .come .ensures .0) (c .before .if4 .left)
+    not-over _ _ _ _ _ _ (fair (c .before .before .before .before)) _ _ (c .before .before .before .gone .ensures) (c .before .before .come .ensures .0) _ (c .refuse .ensures) (c .before .if4 .left)
 
-pub change-refusal-spec : {M : Type 1} → statement M
-change-refusal-spec =
+pub check-change-spec : {M : Type 1} → statement M
+check-change-spec =
     tie.close
     (tie.spec
     stands-requires
-    refuse-requires
+    refused-requires
     returns
     full-requires
-    refuse-requires-2
+    refused-requires-2
     returns-2
     new-row-refusal-requires
     returns-3
     gone-requires
-    sub-if4
+    sub-deep
     come-requires
-    add-if4
-    refuse-requires-3
+    add-deep
+    refused-requires-3
     returns-4
-    refuse-requires-4
+    refuse-requires
     returns-5)
