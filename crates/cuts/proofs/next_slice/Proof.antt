@@ -1,8 +1,8 @@
--- `shaft::next_slice` meets its contract.
+-- `cuts::next_slice` meets its contract.
 use borrow.Author.Needs.{needs}
-use Rattle.shaft.proofs.CutLaws.{read-is}
-use Rattle.shaft.proofs.next_slice.Statement.{statement}
-use Rattle.shaft.proofs.next_slice.Tie as tie
+use Rattle.cuts.proofs.SliceLaws.{read-is}
+use Rattle.cuts.proofs.next_slice.Statement.{statement}
+use Rattle.cuts.proofs.next_slice.Tie as tie
 
 cast-tip : tie.Need-cast-tip
 cast-tip c = search needs

@@ -1,20 +1,34 @@
--- The table while it is filled: slice-long bytes a slice, in order, and zeros behind them; and the sum.
+-- The table while it is filled: cleared, then seven bytes a slice, in order, and zeros behind them; and the sum.
 use mathlib.Core.Path.{_≡_, refl, sym, _∙_, ap, ap₂}
 use mathlib.Core.List.{List, [], _∷_, _++_, append-assoc, append-nil}
-use Prim.Native.Nat.{ℕ, _+_, _*_, _-_, _<_, _≤_}
-use native.Mathlib.Nat.{mul-le-mul, mul-le-mul-right}
+use Prim.Native.Nat.{ℕ, suc, _+_, _*_, _-_, _<_, _≤_}
 use native.Mathlib.Omega.{arith}
 use native.Mathlib.Numerals.{add-one}
-use lib.ListN.{length, take, drop, getD, set, replicate, length-append, length-replicate, replicate-append-replicate}
-use lib.Seq.{paste, paste-zero, paste-suc, take-all, take-at, drop-at}
+use lib.ListN.{length, take, drop, getD, set, replicate, length-append, length-replicate, replicate-append-replicate, drop-of-length-le}
+use lib.Seq.{paste, paste-zero, paste-suc, take-all, take-at, drop-at, drop-cons, set-at}
 use Rattle.rules.specs.declared.Slice.{Slice}
 use Rattle.rules.specs.Limits.{placeLimit, sliceSize, tableSize, sliceLimit}
 use Rattle.rules.specs.Packed.{sliceBytes, slicesBytes}
 use Rattle.rules.specs.Numbers.{total}
+use Rattle.cuts.specs.Cuts.{putAt}
 
 pub slice-long : (s : List ℕ) (c : Slice) → s ≡ sliceBytes c → length s ≡ sliceSize
 unfolding sliceBytes
 slice-long s c e = ap length e
+
+-- i bytes are cleared
+pub clear-more : (d e : List ℕ) (i : ℕ) → i < length d → e ≡ replicate i 0 ++ drop i d → set e i 0 ≡ replicate (i + 1) 0 ++ drop (i + 1) d
+clear-more d e i h q =
+    ap (λ (x : List ℕ). set x i 0) (q ∙ ap (λ (x : List ℕ). replicate i 0 ++ x) (drop-cons d i 0 h))
+    ∙ set-at (replicate i 0) (getD d i 0) (drop (suc i) d) 0 i (length-replicate {A = ℕ} i 0)
+    ∙ sym (append-assoc (replicate i 0) (0 ∷ []) (drop (suc i) d))
+    ∙ ap (λ (x : List ℕ). x ++ drop (suc i) d) (replicate-append-replicate i 1 0)
+    ∙ ap (λ (k : ℕ). replicate (i + 1) 0 ++ drop k d) (sym (add-one i))
+
+pub clear-all : (d e : List ℕ) (n i : ℕ) → length d ≡ n → i ≡ n → e ≡ replicate i 0 ++ drop i d → e ≡ replicate n 0
+clear-all d e n i h k q =
+    let m : length d ≤ n = omega arith in
+    q ∙ ap (λ (j : ℕ). replicate j 0 ++ drop j d) k ∙ ap (λ (x : List ℕ). replicate n 0 ++ x) (drop-of-length-le d m) ∙ append-nil (replicate n 0)
 
 pub copy-none : (d s : List ℕ) (at : ℕ) → d ≡ paste d at s 0
 copy-none d s at = paste-zero d at s
@@ -25,13 +39,6 @@ copy-more d e s at j h l q = ap (λ (x : List ℕ). set x (at + j) (getD s j 0))
 pub copy-all : (d e s : List ℕ) (at n j : ℕ) → length s ≡ n → j ≡ n → e ≡ paste d at s j → e ≡ take at d ++ s ++ drop (at + n) d
 copy-all d e s at n j h k q =
     q ∙ ap (paste d at s) k ∙ ap (λ (x : List ℕ). take at d ++ x ++ drop (at + n) d) (take-all n s (omega arith))
-
--- friction × thickness × factor
-pub share-small : (f t k : ℕ) → f ≤ 20000000 → k ≤ 8 → f * t * k ≤ 160000000 * t
-share-small f t k h l = omega (arith, mul-le-mul (mul-le-mul-right t h) l)
-
-pub share-first : (f t : ℕ) → f ≤ 20000000 → t ≤ sliceLimit → f * t ≤ 40000000000
-share-first f t h l = omega (arith, mul-le-mul h l)
 
 -- one slice more
 more-bytes : (cs : List Slice) (c : Slice) → slicesBytes (cs ++ (c ∷ [])) ≡ slicesBytes cs ++ sliceBytes c
@@ -57,7 +64,7 @@ pub filled-long : (cs : List Slice) (b : List ℕ) (n : ℕ) → n ≤ placeLimi
 filled-long cs b n h f =
     omega (arith, f .0, ap length (f .1), length-append (slicesBytes cs) (replicate (tableSize - n * sliceSize) 0), bytes-long cs, length-replicate {A = ℕ} (tableSize - n * sliceSize) 0)
 
-pub filled-more : (cs : List Slice) (b e : List ℕ) (n : ℕ) (c : Slice) → n < placeLimit → e ≡ take (n * sliceSize) b ++ sliceBytes c ++ drop (n * sliceSize + sliceSize) b → Filled cs b n → Filled (cs ++ (c ∷ [])) e (n + 1)
+pub filled-more : (cs : List Slice) (b e : List ℕ) (n : ℕ) (c : Slice) → n < placeLimit → e ≡ putAt b n c → Filled cs b n → Filled (cs ++ (c ∷ [])) e (n + 1)
 filled-more cs b e n c h q f =
     let k : tableSize - n * sliceSize ≡ sliceSize + (tableSize - (n + 1) * sliceSize) = omega arith in
     let p : List ℕ = slicesBytes cs in

@@ -1,7 +1,7 @@
--- `shaft::run_top` meets its contract.
+-- `strata::run_top` meets its contract.
 use mathlib.Core.Path.{sym, _∙_}
-use Rattle.shaft.proofs.run_top.Statement.{statement}
-use Rattle.shaft.proofs.run_top.Tie as tie
+use Rattle.strata.proofs.run_top.Statement.{statement}
+use Rattle.strata.proofs.run_top.Tie as tie
 
 same-soil-requires : tie.Need-same-soil-requires
 same-soil-requires c κs = tt

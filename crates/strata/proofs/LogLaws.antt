@@ -1,31 +1,44 @@
 -- The rows of a log one by one, and what stands below the first few.
 use mathlib.Core.Path.{_≡_, refl, sym, _∙_, ap, ap₂}
 use mathlib.Core.List.{List, [], _∷_}
-use Prim.Native.Nat.{ℕ, zero, suc, _+_, _-_, _^_, _<_, _≤_}
+use Prim.Native.Nat.{ℕ, zero, suc, _+_, _*_, _-_, _^_, _<_, _≤_}
 use native.Mathlib.Omega.{arith}
 use native.Mathlib.Numerals.{add-one}
-use lib.ListN.{length, take, drop, getD, length-take, drop-of-length-le}
-use lib.Seq.{drop-cons, getD-take}
+use lib.ListN.{length, take, drop, drop-of-length-le}
 use Rattle.rules.specs.declared.Row.{Row}
-use Rattle.rules.specs.declared.Log.{Log}
+use Rattle.rules.specs.Limits.{rowSize}
+use Rattle.rules.specs.Packed.{rowAt, rowsFrom, countOf, rowsOf}
 use Rattle.rules.specs.Checks.{depthOf}
 use Rattle.rules.specs.Ground.{soilAt}
 use Rattle.rules.specs.ByRows.{extent}
 use Rattle.rules.proofs.GroundLaws.{soil-below}
 use Rattle.rules.proofs.RowLaws.{extent-below}
-use Rattle.shaft.specs.Log.{usedRows, Placed, Good}
+use Rattle.strata.specs.Good.{Good}
 
--- row i of the first n, and the rows below it
-drop-row : (n i : ℕ) (rs : List Row) (d : Row) → i < n → n ≤ length rs → drop i (take n rs) ≡ getD rs i d ∷ drop (i + 1) (take n rs)
-drop-row n i rs d h l =
-    let k : i < length (take n rs) = omega (arith, length-take n rs) in
-    drop-cons (take n rs) i d k ∙ ap₂ (λ (r : Row) (t : List Row). r ∷ t) (getD-take n rs i d h) (ap (λ (j : ℕ). drop j (take n rs)) (sym (add-one i)))
+-- row i of n, and the rows below it
+from-row : (s : List ℕ) (at n i : ℕ) → i < n → drop i (rowsFrom s at n) ≡ rowAt s (at + i * 40) ∷ drop (suc i) (rowsFrom s at n)
+unfolding rowsFrom
+from-row s at zero i h = absurd (omega arith)
+from-row s at (suc n) zero h = let e : at ≡ at + 0 * 40 = omega arith in ap (λ (p : ℕ). rowAt s p ∷ rowsFrom s (at + 40) n) e
+from-row s at (suc n) (suc i) h =
+    let e : at + 40 + i * 40 ≡ at + suc i * 40 = omega arith in
+    from-row s (at + 40) n i (omega arith) ∙ ap (λ (p : ℕ). rowAt s p ∷ drop (suc i) (rowsFrom s (at + 40) n)) e
 
-pub row-left : (l : Log) (i : ℕ) (d : Row) → Placed l → i < l .count → drop i (usedRows l) ≡ getD (l .rows) i d ∷ drop (i + 1) (usedRows l)
-row-left l i d p h = drop-row (l .count) i (l .rows) d h (omega (arith, p .room, p .count))
+rows-long : (s : List ℕ) (at n : ℕ) → length (rowsFrom s at n) ≡ n
+unfolding rowsFrom
+rows-long s at zero = refl
+rows-long s at (suc n) = ap suc (rows-long s (at + 40) n)
 
-pub none-left : (l : Log) (i : ℕ) → l .count ≤ i → drop i (usedRows l) ≡ []
-none-left l i h = let k : length (take (l .count) (l .rows)) ≤ i = omega (arith, length-take (l .count) (l .rows)) in drop-of-length-le (usedRows l) k
+-- a row read at its place in the log is the next of the rows
+pub row-left : (s : List ℕ) (i : ℕ) (r : Row) → i < countOf s → r ≡ rowAt s ((1 + i * rowSize) * 8) → drop i (rowsOf s) ≡ r ∷ drop (i + 1) (rowsOf s)
+unfolding rowsOf
+row-left s i r h e =
+    let p : 8 + i * 40 ≡ (1 + i * rowSize) * 8 = omega arith in
+    from-row s 8 (countOf s) i h ∙ ap₂ (λ (x : Row) (k : ℕ). x ∷ drop k (rowsFrom s 8 (countOf s))) (ap (λ (k : ℕ). rowAt s k) p ∙ sym e) (sym (add-one i))
+
+pub none-left : (s : List ℕ) (i : ℕ) → countOf s ≤ i → drop i (rowsOf s) ≡ []
+unfolding rowsOf
+none-left s i h = let k : length (rowsFrom s 8 (countOf s)) ≤ i = omega (arith, rows-long s 8 (countOf s)) in drop-of-length-le (rowsFrom s 8 (countOf s)) k
 
 -- the rows above and the rows below are all the rows
 pub deep-split : (i : ℕ) (rs : List Row) → depthOf (take i rs) + depthOf (drop i rs) ≡ depthOf rs
@@ -61,15 +74,11 @@ extent-left (suc i) (r ∷ rs) m h =
 pub sum-more : (i : ℕ) (rs qs : List Row) (r : Row) (sum w : ℕ) → drop i rs ≡ r ∷ qs → w ≡ r .thickness → sum ≡ depthOf (take i rs) → sum + w ≡ depthOf (take (i + 1) rs)
 sum-more i rs qs r sum w e k h = omega (arith, deep-next i rs qs r e)
 
-pub sum-all : (l : Log) (i sum : ℕ) → l .count ≤ i → sum ≡ depthOf (take i (usedRows l)) → sum ≡ depthOf (usedRows l)
+pub sum-all : (s : List ℕ) (i sum : ℕ) → countOf s ≤ i → sum ≡ depthOf (take i (rowsOf s)) → sum ≡ depthOf (rowsOf s)
 unfolding depthOf
-sum-all l i sum h e = omega (arith, deep-split i (usedRows l), ap depthOf (none-left l i h))
+sum-all s i sum h e = omega (arith, deep-split i (rowsOf s), ap depthOf (none-left s i h))
 
-pub sum-fits : (i : ℕ) (rs : List Row) (sum : ℕ) → sum ≡ depthOf (take i rs) → sum ≤ depthOf rs
-sum-fits i rs sum e = omega (arith, deep-split i rs)
-
-pub row-fits : (l : Log) (i : ℕ) (d : Row) (sum : ℕ) → Good l → i < l .count → sum ≡ depthOf (take i (usedRows l)) → sum + getD (l .rows) i d .thickness < 2 ^ 64
-row-fits l i d sum g h e =
-    let k : sum + getD (l .rows) i d .thickness ≤ depthOf (usedRows l)
-    = sum-fits (i + 1) (usedRows l) _ (sum-more i (usedRows l) _ (getD (l .rows) i d) sum _ (row-left l i d (g .placed) h) refl e) in
-    omega (arith, g .deep)
+pub row-fits : (s : List ℕ) (i : ℕ) (r : Row) (sum : ℕ) → Good s → i < countOf s → r ≡ rowAt s ((1 + i * rowSize) * 8) → sum ≡ depthOf (take i (rowsOf s)) → sum + r .thickness < 2 ^ 64
+row-fits s i r sum g h e k =
+    let more : sum + r .thickness ≡ depthOf (take (i + 1) (rowsOf s)) = sum-more i (rowsOf s) _ r sum _ (row-left s i r h e) refl k in
+    omega (arith, deep-split (i + 1) (rowsOf s), g .deep)

@@ -1,10 +1,10 @@
--- `shaft::weigh` meets its contract: the product stays far below 64 bits.
+-- `cuts::weigh` meets its contract: the product stays far below 64 bits.
 use mathlib.Core.Path.{refl}
 use borrow.Author.Needs.{needs}
 use native.Mathlib.Omega.{arith}
-use Rattle.shaft.proofs.TableLaws.{share-first, share-small}
-use Rattle.shaft.proofs.weigh.Statement.{statement}
-use Rattle.shaft.proofs.weigh.Tie as tie
+use Rattle.cuts.proofs.SliceLaws.{share-first, share-small}
+use Rattle.cuts.proofs.weigh.Statement.{statement}
+use Rattle.cuts.proofs.weigh.Tie as tie
 
 cast-result : tie.Need-cast-result
 cast-result c = search needs
