@@ -1,17 +1,18 @@
 -- What check 1 of an edit leaves known: the lengths of the lent pieces.
-use mathlib.Core.Path.{_≡_, refl, sym}
+use mathlib.Core.Path.{_≡_, sym}
 use mathlib.Core.Bool.{Bool, true, false, true≢false}
 use mathlib.Core.List.{List}
 use Prim.Native.Nat.{ℕ}
 use lib.Dec.{eqb}
 use lib.ListN.{length}
 use borrow.Author.Tests.{eqb-true}
-use Rattle.rules.specs.Base.{both, either, neg}
+use Rattle.rules.specs.Base.{both, either}
 use Rattle.rules.specs.Limits.{rowSize, logSize, pileSize, tableSize}
 use Rattle.rules.specs.Checks.{longOther}
 use Rattle.rules.specs.Calculation.{lengthsWrong}
 use Rattle.rules.specs.Edits.{brings, editLengths}
 use Rattle.rules.proofs.RefusalLaws.{either-left, either-right}
+use Rattle.replies.proofs.TestLaws.{neg-false}
 use Rattle.edited.specs.Asked.{asked, Brought}
 
 pub record Long (kind : ℕ) (r l p t : List ℕ) : Type 0 where
@@ -21,11 +22,7 @@ pub record Long (kind : ℕ) (r l p t : List ℕ) : Type 0 where
   pub row : Brought kind r
 
 is-long : (n : ℕ) (s : List ℕ) → longOther n s ≡ false → length s ≡ n
-is-long n s h = go (eqb (length s) n) refl h
-  where
-    go : (t : Bool) → eqb (length s) n ≡ t → neg t ≡ false → length s ≡ n
-    go true e k = eqb-true (length s) n e
-    go false e k = absurd (true≢false k)
+is-long n s h = eqb-true (length s) n (neg-false (eqb (length s) n) h)
 
 not-both : (a b : Bool) → both a b ≡ false → a ≡ true → b ≡ false
 not-both true b h e = h

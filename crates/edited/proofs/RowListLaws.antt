@@ -1,23 +1,22 @@
 -- Laws of a log's rows as a list: fields in range, depth, and the ground of rows put in, taken out and split.
 use mathlib.Core.Path.{_≡_, refl, sym, _∙_, ap}
-use mathlib.Core.Bool.{Bool, true, false, true≢false}
-use mathlib.Core.Logic.{_⊎_, ⊎-elim}
+use mathlib.Core.Bool.{true, false}
+use mathlib.Core.Logic.{⊎-elim}
 use mathlib.Core.List.{List, [], _∷_, _++_}
 use Prim.Native.Nat.{ℕ, zero, suc, _+_, _-_, _<_, _≤_}
 use native.Mathlib.Omega.{arith}
-use lib.Dec.{ltb}
 use lib.ListN.{length, take, drop, getD}
 use lib.Seq.{split-at}
-use borrow.Author.Tests.{lt-ltb, le-ltb}
+use borrow.Author.Tests.{le-ltb}
 use Rattle.rules.specs.declared.Row.{Row}
-use Rattle.rules.specs.declared.Refusal.{Refusal}
-use Rattle.rules.specs.Base.{pick, within, refuses, nothing}
+use Rattle.rules.specs.Base.{within, refuses, nothing}
 use Rattle.rules.specs.Limits.{depthLimit}
 use Rattle.rules.specs.Packed.{noRow}
 use Rattle.rules.specs.Checks.{wrongField, firstWrong, depthOf}
 use Rattle.rules.specs.Ground.{soilAt, Agree}
 use Rattle.rules.specs.Edits.{part}
 use Rattle.rules.proofs.Basics.{split}
+use Rattle.rules.proofs.RefusalLaws.{within-low, within-high, none-picked, not-picked}
 use Rattle.rules.proofs.GroundLaws.{soil-here, soil-below}
 
 -- every row's fields are in range
@@ -25,18 +24,11 @@ abbrev pub Fit : List Row → Type 0
 Fit [] = Unit {0}
 Fit (r ∷ rs) = (wrongField r ≡ 0) × Fit rs
 
-pub pick-fit : (k f : ℕ) (on : Refusal) → refuses (pick (ltb 0 f) (record { number = 3; row = k; field = f }) on) ≡ false → (f ≡ 0) × (refuses on ≡ false)
-pick-fit k f on h =
-    ⊎-elim
-    (λ (l : 0 < f). let e : refuses (record { number = 3; row = k; field = f }) ≡ false = rw (lt-ltb 0 f l) at h in absurd (true≢false e))
-    (λ (l : f ≤ 0). (omega arith, rw (le-ltb 0 f l) at h))
-    (split 0 f)
-
 pub fit-of : (k : ℕ) (rs : List Row) → refuses (firstWrong k rs) ≡ false → Fit rs
 unfolding firstWrong
 fit-of k [] h = tt
 fit-of k (r ∷ rs) h =
-    let p = pick-fit k (wrongField r) (firstWrong (k + 1) rs) h in
+    let p = not-picked (wrongField r) (record { number = 3; row = k; field = wrongField r }) (firstWrong (k + 1) rs) refl h in
     (p .0, fit-of (k + 1) rs (p .1))
 
 pub of-fit : (k : ℕ) (rs : List Row) → Fit rs → firstWrong k rs ≡ nothing
@@ -72,26 +64,15 @@ pub depth-cons : (r : Row) (rs : List Row) → depthOf (r ∷ rs) ≡ r .thickne
 unfolding depthOf
 depth-cons r rs = refl
 
--- the thickness of a row whose fields are in range
-pick-one : (t : Bool) (n : ℕ) → pick {A = ℕ} t n 1 ≡ 0 → t ≡ true
-pick-one true n h = refl
-pick-one false n h = absurd (omega arith)
-
-pub within-low : (low high n : ℕ) → within low high n ≡ true → (low ≤ n) × (n ≤ high)
-within-low low high n h =
-    ⊎-elim (λ (l : n < low). let e : within low high n ≡ false = rw (lt-ltb n low l) in absurd (true≢false (sym h ∙ e)))
-    (λ (l : low ≤ n).
-    ⊎-elim (λ (g : high < n). let e : within low high n ≡ false = rw (le-ltb n low l, lt-ltb high n g) in absurd (true≢false (sym h ∙ e)))
-    (λ (g : n ≤ high). (l, g))
-    (split high n))
-    (split n low)
-
-pub within-true : (low high n : ℕ) → low ≤ n → n ≤ high → within low high n ≡ true
+within-true : (low high n : ℕ) → low ≤ n → n ≤ high → within low high n ≡ true
 within-true low high n h k = rw (le-ltb n low h, le-ltb high n k)
 
+-- the thickness of a row whose fields are in range
 pub fit-thickness : (r : Row) → wrongField r ≡ 0 → (1 ≤ r .thickness) × (r .thickness ≤ depthLimit)
 unfolding wrongField
-fit-thickness r h = within-low 1 depthLimit (r .thickness) (pick-one (within 1 depthLimit (r .thickness)) _ h)
+fit-thickness r h =
+    let p = none-picked (within 1 depthLimit (r .thickness)) _ 0 h .0 in
+    (within-low 1 depthLimit (r .thickness) p, within-high 1 depthLimit (r .thickness) p)
 
 pub fit-part : (r : Row) (t : ℕ) → wrongField r ≡ 0 → 1 ≤ t → t ≤ r .thickness → wrongField (part t r) ≡ 0
 unfolding wrongField

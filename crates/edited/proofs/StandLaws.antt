@@ -11,8 +11,8 @@ use Rattle.rules.specs.Limits.{rowLimit}
 use Rattle.rules.specs.Packed.{countOf}
 use Rattle.rules.specs.Edits.{grows, names, rowNamed, stands}
 use Rattle.rules.proofs.Basics.{sure, both-left, both-right}
+use Rattle.rules.proofs.RefusalLaws.{within-low, within-high}
 use Rattle.edited.specs.Asked.{asked, full}
-use Rattle.edited.proofs.RowListLaws.{within-low}
 
 -- an edit of no kind does not stand
 pub none-stands : (k x : ℕ) (log : List ℕ) (kind : ℕ) → (kind ≡ 1 → ⊥) → (kind ≡ 2 → ⊥) → (kind ≡ 3 → ⊥) → (kind ≡ 4 → ⊥) → false ≡ stands (asked kind k x []) log
@@ -33,9 +33,9 @@ pub standing : (kind k x : ℕ) (row l : List ℕ) → stands (asked kind k x ro
 unfolding stands
 standing kind k x row l h =
     ⊎-elim
-    (λ (e : kind ≡ 1). let g : names k (countOf l) ≡ true = rw e at h in let w = within-low 1 (countOf l) k g in replaces e (w .0) (w .1))
+    (λ (e : kind ≡ 1). let g : names k (countOf l) ≡ true = rw e at h in replaces e (within-low 1 _ k g) (within-high 1 _ k g))
     (λ (a : kind ≡ 1 → ⊥). ⊎-elim
-    (λ (e : kind ≡ 2). let g : names k (countOf l + 1) ≡ true = rw e at h in let w = within-low 1 (countOf l + 1) k g in inserts e (w .0) (w .1))
+    (λ (e : kind ≡ 2). let g : names k (countOf l + 1) ≡ true = rw e at h in inserts e (within-low 1 _ k g) (within-high 1 _ k g))
     (λ (b : kind ≡ 2 → ⊥). ⊎-elim
     (λ (e : kind ≡ 3). let g : both (names k (countOf l)) (ltb 1 (countOf l)) ≡ true = rw e at h in removing e g)
     (λ (c : kind ≡ 3 → ⊥). ⊎-elim
@@ -48,14 +48,14 @@ standing kind k x row l h =
   where
     removing : kind ≡ 3 → both (names k (countOf l)) (ltb 1 (countOf l)) ≡ true → Standing kind k x l
     removing e g =
-        let w = within-low 1 (countOf l) k (both-left _ _ g) in
-        removes e (w .0) (w .1) (ltb-true 1 (countOf l) (both-right (names k (countOf l)) _ g))
+        let n : names k (countOf l) ≡ true = both-left _ _ g in
+        removes e (within-low 1 _ k n) (within-high 1 _ k n) (ltb-true 1 (countOf l) (both-right (names k (countOf l)) _ g))
 
     splitting : kind ≡ 4 → both (names k (countOf l)) (both (leb 1 x) (ltb x (rowNamed l k .thickness))) ≡ true → Standing kind k x l
     splitting e g =
-        let w = within-low 1 (countOf l) k (both-left _ _ g) in
+        let n : names k (countOf l) ≡ true = both-left _ _ g in
         let p = both-right (names k (countOf l)) _ g in
-        splits e (w .0) (w .1) (leb-true 1 x (both-left _ _ p)) (ltb-true x (rowNamed l k .thickness) (both-right (leb 1 x) _ p))
+        splits e (within-low 1 _ k n) (within-high 1 _ k n) (leb-true 1 x (both-left _ _ p)) (ltb-true x (rowNamed l k .thickness) (both-right (leb 1 x) _ p))
 
 -- an edit that stands names a row from 1 on
 pub named-low : (kind k x : ℕ) (l : List ℕ) → Standing kind k x l → 1 ≤ k

@@ -1,6 +1,6 @@
 -- Laws of the unused places: where the count is right and they are zero, they are so again in an edited log.
 use mathlib.Core.Path.{_≡_, refl, ap, sym, _∙_}
-use mathlib.Core.Bool.{Bool, true, false}
+use mathlib.Core.Bool.{true, false}
 use mathlib.Core.List.{List, [], _∷_, _++_, append-assoc}
 use Prim.Native.Nat.{ℕ, zero, suc, _+_, _*_, _-_, _<_, _≤_}
 use native.Mathlib.Omega.{arith}
@@ -8,36 +8,17 @@ use lib.Dec.{eqb, ltb}
 use lib.ListN.{take, drop, replicate, length, length-append, length-drop}
 use lib.Seq.{drop-drop, drop-append-add, drop-append-le, length-take-le}
 use borrow.Author.Tests.{ltb-false, eqb-false, le-ltb, ne-eqb}
-use Rattle.rules.specs.Base.{both, either, neg, allZero}
+use Rattle.rules.specs.Base.{neg, allZero}
 use Rattle.rules.specs.Limits.{rowSize, rowLimit, logSize}
 use Rattle.rules.specs.Packed.{countOf}
 use Rattle.rules.specs.Checks.{countWrong, unusedWrong}
 use Rattle.rules.specs.Edits.{placeByte, moved, withCount, upTo, fromRow, replacedLog, insertedLog, removedLog, splitLog}
+use Rattle.rules.proofs.Basics.{both-left, both-right}
+use Rattle.rules.proofs.RefusalLaws.{either-left, either-right}
+use Rattle.replies.proofs.TestLaws.{neg-false}
 use Rattle.edited.specs.Divided.{dividedLog}
 use Rattle.edited.proofs.RowLaws.{length-row}
 use Rattle.edited.proofs.EditedLaws.{above, below-place, split-divides}
-
-either-left : (a b : Bool) → either a b ≡ false → a ≡ false
-either-left true b h = h
-either-left false b h = refl
-
-either-right : (a b : Bool) → either a b ≡ false → b ≡ false
-either-right true true h = h
-either-right true false h = refl
-either-right false b h = h
-
-neg-right : (b : Bool) → neg b ≡ false → b ≡ true
-neg-right true h = refl
-neg-right false h = sym h
-
-both-left : (a b : Bool) → both a b ≡ true → a ≡ true
-both-left true b h = refl
-both-left false b h = h
-
-both-right : (a b : Bool) → both a b ≡ true → b ≡ true
-both-right true b h = h
-both-right false true h = refl
-both-right false false h = h
 
 -- what a log that passes check 2 has
 pub record Filled (s : List ℕ) : Type 0 where
@@ -53,7 +34,7 @@ filled s h =
     record {
       some = omega arith;
       few = ltb-false 64 (countOf s) (either-right (eqb (countOf s) 0) (ltb 64 (countOf s)) c);
-      blank = neg-right _ (either-right (countWrong (countOf s)) (neg (allZero (drop (1 + countOf s * 5) s))) h);
+      blank = neg-false _ (either-right (countWrong (countOf s)) (neg (allZero (drop (1 + countOf s * 5) s))) h);
     }
 
 pub unused-right : (s : List ℕ) → Filled s → unusedWrong s ≡ false

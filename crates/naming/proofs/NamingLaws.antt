@@ -9,15 +9,15 @@ use borrow.Author.Tests.{le-leb, lt-leb}
 use Rattle.rules.specs.declared.Row.{Row}
 use Rattle.rules.specs.Packed.{countOf, rowAt}
 use Rattle.rules.specs.Edits.{names, rowNamed, stands}
+use Rattle.rules.proofs.RefusalLaws.{within-low}
 use Rattle.edited.specs.Asked.{asked}
-use Rattle.edited.proofs.RowListLaws.{within-low}
 
 -- row k begins at its byte's first bit
 pub place-bit : (s : List ℕ) (k : ℕ) (r : Row) → r ≡ rowAt s ((1 + (k - 1) * 5) * 8) → r ≡ rowNamed s k
 place-bit s k r h = let e : (1 + (k - 1) * 5) * 8 ≡ 8 + (k - 1) * 40 = omega arith in h ∙ ap (rowAt s) e
 
 pub names-low : (k n : ℕ) (r : Bool) → r ≡ names k n → r ≡ true → 1 ≤ k
-names-low k n r h e = within-low 1 n k (sym h ∙ e) .0
+names-low k n r h e = within-low 1 n k (sym h ∙ e)
 
 -- each way to tell whether the edit stands
 module _ (k x : ℕ) (log : List ℕ) where
