@@ -1,11 +1,11 @@
--- `calculation::numbers::tip_force` meets its contract: R × d × d × 314159 is at most 5.7e18.
+-- `numbers::tip_force` meets its contract: R × d × d × 314159 is at most 5.7e18.
 use native.Mathlib.Nat.{mul-le-mul}
 use native.Mathlib.Omega.{arith}
 use borrow.Author.Tests.{eq-eqb, ne-eqb}
 use Rattle.rules.specs.Numbers.{tipForce}
 use borrow.Author.Needs.{needs}
-use Rattle.calculation.proofs.numbers.tip_force.Statement.{statement}
-use Rattle.calculation.proofs.numbers.tip_force.Tie as tie
+use Rattle.numbers.proofs.tip_force.Statement.{statement}
+use Rattle.numbers.proofs.tip_force.Tie as tie
 
 cast-a : tie.Need-cast-a
 cast-a c = search needs

@@ -1,11 +1,11 @@
-// The five numbers, each rounded down.
-use super::refusals::refuse;
+// The five numbers of an answer, each rounded down.
+use replies::refuse;
 ghost use mathlib.Core.Path.{_≡_};
 ghost use Prim.Native.Nat.{_≤_};
 ghost use Rattle.rules.specs.Numbers.{tipForce, shaftForce, capacityOf, upliftOf};
 ghost use Rattle.rules.specs.Numbers as numbers;
 ghost use Rattle.rules.specs.Answers as answers;
-ghost use Rattle.calculation.specs.Work.{Sides};
+ghost use Rattle.numbers.specs.Sides.{Sides};
 use rules::Answer;
 use rules::Pile;
 use rules::Soil;
@@ -69,7 +69,7 @@ fn uplift(pile: Pile, n: u64) -> u64
 }
 
 // The five numbers.
-pub(crate) fn five_numbers(soil: Soil, pile: Pile, r: u64, line: u64) -> Answer
+pub fn five_numbers(soil: Soil, pile: Pile, r: u64, line: u64) -> Answer
     requires { ⌜ Sides pile × (pile .head ≤ pile .tip) × (r ≤ 4500000) × (line ≤ 3200000) ⌝ }
     ensures { λ n. ⌜ n ≡ answers.numbers soil pile r line ⌝ }
 {

@@ -1,9 +1,9 @@
--- `calculation::numbers::uplift` meets its contract.
+-- `numbers::uplift` meets its contract.
 use borrow.Author.Tests.{lt-ltb, le-ltb}
 use Rattle.rules.specs.Numbers.{upliftOf}
 use borrow.Author.Needs.{needs}
-use Rattle.calculation.proofs.numbers.uplift.Statement.{statement}
-use Rattle.calculation.proofs.numbers.uplift.Tie as tie
+use Rattle.numbers.proofs.uplift.Statement.{statement}
+use Rattle.numbers.proofs.uplift.Tie as tie
 
 cast-head : tie.Need-cast-head
 cast-head c = search needs

@@ -1,15 +1,12 @@
-// Checks 7 to 12, each by what it looks at; and what a refusal replies.
+// Checks 7 to 12, each by what it looks at.
 ghost use mathlib.Core.Path.{_≡_};
 ghost use Prim.Native.Nat.{_≤_, max};
 ghost use Rattle.rules.specs.Base as base;
 ghost use Rattle.rules.specs.Numbers.{tipOf, tipRead};
 ghost use Rattle.rules.specs.Numbers as numbers;
 ghost use Rattle.rules.specs.Answers.{seatShort, late};
-ghost use Rattle.rules.specs.Answers as answers;
-ghost use Rattle.calculation.specs.Work.{depthChecks};
-use rules::Answer;
+ghost use Rattle.pile_checks.specs.Depths.{depthChecks};
 use rules::Pile;
-use rules::Refusal;
 use rules::Soil;
 use rules::TipRead;
 
@@ -20,30 +17,6 @@ fn larger(a: u64, b: u64) -> u64
         return b;
     }
     a
-}
-
-pub fn refuse(n: u32) -> Refusal
-    ensures { λ r. ⌜ r ≡ base.refuse n ⌝ }
-{
-    Refusal {
-        number: n,
-        row: 0,
-        field: 0,
-    }
-}
-
-pub fn refused(refusal: Refusal) -> Answer
-    ensures { λ r. ⌜ r ≡ answers.refused refusal ⌝ }
-{
-    Answer {
-        refusal: refusal,
-        kept: 0,
-        line: 0,
-        tip: 0,
-        shaft: 0,
-        capacity: 0,
-        uplift: 0,
-    }
 }
 
 // Checks 7 and 8: the number of the first that refuses, or 0.
@@ -90,7 +63,7 @@ fn is_dash(read: TipRead) -> bool
 }
 
 // Checks 9 to 12, by the tip's soil, the top of its stratum and what the tip table is read to: the number of the first that refuses, or 0.
-pub(crate) fn tip_refusal(pile: Pile, soil: Soil, top: u64, read: TipRead) -> u32
+pub fn tip_refusal(pile: Pile, soil: Soil, top: u64, read: TipRead) -> u32
     requires { ⌜ (pile .head ≤ pile .tip) × (top ≤ pile .tip) × (read ≡ tipRead (tipOf pile) (soil .index)) ⌝ }
     ensures { λ r. ⌜ base.refuse r ≡ late soil top pile ⌝ }
 {

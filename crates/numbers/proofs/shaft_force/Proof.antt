@@ -1,11 +1,11 @@
--- `calculation::numbers::shaft_force` meets its contract.
+-- `numbers::shaft_force` meets its contract.
 use native.Mathlib.Nat.{mul-le-mul, add-le-add}
 use native.Mathlib.Omega.{arith}
 use borrow.Author.Tests.{eq-eqb, ne-eqb}
 use Rattle.rules.specs.Numbers.{shaftForce}
 use borrow.Author.Needs.{needs}
-use Rattle.calculation.proofs.numbers.shaft_force.Statement.{statement}
-use Rattle.calculation.proofs.numbers.shaft_force.Tie as tie
+use Rattle.numbers.proofs.shaft_force.Statement.{statement}
+use Rattle.numbers.proofs.shaft_force.Tie as tie
 
 cast-a : tie.Need-cast-a
 cast-a c = search needs

@@ -1,8 +1,8 @@
--- `calculation::numbers::five_numbers` meets its contract.
+-- `numbers::five_numbers` meets its contract.
 use Rattle.rules.specs.Answers.{numbers}
 use borrow.Author.Needs.{needs}
-use Rattle.calculation.proofs.numbers.five_numbers.Statement.{statement}
-use Rattle.calculation.proofs.numbers.five_numbers.Tie as tie
+use Rattle.numbers.proofs.five_numbers.Statement.{statement}
+use Rattle.numbers.proofs.five_numbers.Tie as tie
 
 tip-force-requires : tie.Need-tip-force-requires
 tip-force-requires c κs = search needs

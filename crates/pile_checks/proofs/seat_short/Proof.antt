@@ -1,8 +1,8 @@
--- `calculation::refusals::seat_short` meets its contract.
-use Rattle.calculation.proofs.PileLaws.{seat-two, seat-side}
+-- `pile_checks::seat_short` meets its contract.
+use Rattle.pile_checks.proofs.SeatLaws.{seat-two, seat-side}
 use borrow.Author.Needs.{needs}
-use Rattle.calculation.proofs.refusals.seat_short.Statement.{statement}
-use Rattle.calculation.proofs.refusals.seat_short.Tie as tie
+use Rattle.pile_checks.proofs.seat_short.Statement.{statement}
+use Rattle.pile_checks.proofs.seat_short.Tie as tie
 
 cast-tip : tie.Need-cast-tip
 cast-tip c = search needs

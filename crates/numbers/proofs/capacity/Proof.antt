@@ -1,9 +1,9 @@
--- `calculation::numbers::capacity` meets its contract.
+-- `numbers::capacity` meets its contract.
 use borrow.Author.Tests.{lt-ltb, le-ltb}
 use Rattle.rules.specs.Numbers.{capacityOf}
 use borrow.Author.Needs.{needs}
-use Rattle.calculation.proofs.numbers.capacity.Statement.{statement}
-use Rattle.calculation.proofs.numbers.capacity.Tie as tie
+use Rattle.numbers.proofs.capacity.Statement.{statement}
+use Rattle.numbers.proofs.capacity.Tie as tie
 
 mul-result : tie.Need-mul-result
 mul-result c = search needs
