@@ -8,8 +8,8 @@ use borrow.Author.Tests.{lt-ltb, le-ltb}
 use Rattle.rules.specs.declared.Refusal.{Refusal}
 use Rattle.rules.specs.declared.Answer.{Answer}
 use Rattle.rules.specs.Base.{refuses, when, first}
-use Rattle.rules.specs.Limits.{logSize, pileSize, tableSize}
-use Rattle.rules.specs.Packed.{rowsOf}
+use Rattle.rules.specs.Limits.{logSize, pileSize, tableSize, placeLimit}
+use Rattle.rules.specs.Packed.{rowsOf, pileOf}
 use Rattle.rules.specs.Checks.{depthOf, logChecks}
 use Rattle.rules.specs.Answers.{refused}
 use Rattle.rules.specs.Calculation.{freshAnswer, freshTable}
@@ -19,6 +19,7 @@ use Rattle.bits.specs.Fits.{Bytes}
 use Rattle.logs.specs.declared.Checked.{Checked}
 use Rattle.strata.specs.Good.{Good}
 use Rattle.strata.proofs.GoodLaws.{good}
+use Rattle.calculation.proofs.SliceLaws.{few-slices}
 use Rattle.edited.specs.Asked.{asked, Ready, goes, comes}
 use Rattle.edited.proofs.LengthLaws.{Long, long}
 use Rattle.edited.proofs.StandLaws.{standing}
@@ -78,6 +79,9 @@ module _ (e : Edit) (log pile table : List ℕ) (g : Accepted e log pile table) 
   pub depth-now : (r : Checked) → r ≡ editChecked e log pile table → r .depth ≡ depthOf (rowsOf s)
   unfolding editChecked
   depth-now r h = ap (λ (x : Checked). x .depth) h ∙ rw (g .checks, f)
+
+  pub few : (n : ℕ) → n ≡ usedSlices s pile → n ≤ placeLimit
+  few n h = rw h (few-slices (rowsOf s) (pileOf pile))
 
   pub accepted-edit : (a : Answer) (n m : ℕ) (new old : List ℕ) → a ≡ freshAnswer s pile → n ≡ usedSlices s pile → new ≡ freshTable s pile → old ≡ table → m ≡ kept n new old
       → (withKept m a ≡ editReply e log pile table) × ((s ≡ editLog e log pile table) × (new ≡ editTable e log pile table))
