@@ -1,12 +1,12 @@
--- `calculation::work_out` meets its contract.
+-- `work::work_out` meets its contract.
 use mathlib.Core.Path.{_∙_, ap}
 use Rattle.rules.specs.Packed.{rowsOf}
 use Rattle.rules.specs.declared.Pile.{Pile}
-use Rattle.calculation.specs.Work.{workedOut, heldTable, noWork}
-use Rattle.calculation.proofs.WorkLaws.{no-pile, no-depth, past-depth, pile-same, fresh}
+use Rattle.work.specs.Work.{workedOut, heldTable, noWork}
+use Rattle.work.proofs.WorkLaws.{no-pile, no-depth, past-depth, pile-same, fresh}
 use borrow.Author.Needs.{needs}
-use Rattle.calculation.proofs.work_out.Statement.{statement}
-use Rattle.calculation.proofs.work_out.Tie as tie
+use Rattle.work.proofs.work_out.Statement.{statement}
+use Rattle.work.proofs.work_out.Tie as tie
 
 read-pile-requires : tie.Need-read-pile-requires
 read-pile-requires c κs = search needs

@@ -1,9 +1,9 @@
--- `calculation::no_work` meets its contract.
+-- `work::no_work` meets its contract.
 use mathlib.Core.Path.{ap}
 use Rattle.rules.specs.declared.Answer.{Answer}
 use borrow.Author.Needs.{needs}
-use Rattle.calculation.proofs.no_work.Statement.{statement}
-use Rattle.calculation.proofs.no_work.Tie as tie
+use Rattle.work.proofs.no_work.Statement.{statement}
+use Rattle.work.proofs.no_work.Tie as tie
 
 clear-table-requires : tie.Need-clear-table-requires
 clear-table-requires c κs = search needs

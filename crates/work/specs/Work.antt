@@ -8,7 +8,7 @@ use Rattle.rules.specs.declared.Pile.{Pile}
 use Rattle.rules.specs.Packed.{tableBytes}
 use Rattle.rules.specs.Answers.{refused}
 use Rattle.rules.specs.Calculation.{answerOf, slicesOfRows}
-use Rattle.calculation.specs.declared.Worked.{Worked}
+use Rattle.work.specs.declared.Worked.{Worked}
 
 -- the answer, and how many slices it has
 unfoldable pub workedOut : List Row → Pile → Worked

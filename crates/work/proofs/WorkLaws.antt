@@ -32,8 +32,8 @@ use Rattle.strata.specs.Strata.{stratumAt}
 use Rattle.shaft.specs.declared.Shaft.{Shaft}
 use Rattle.shaft.specs.Shafts.{cutOf, noShaft, shaftOf, tableOf}
 use Rattle.pile_checks.specs.Depths.{depthChecks}
-use Rattle.calculation.specs.declared.Worked.{Worked}
-use Rattle.calculation.specs.Work.{workedOut, heldTable, noWork}
+use Rattle.work.specs.declared.Worked.{Worked}
+use Rattle.work.specs.Work.{workedOut, heldTable, noWork}
 
 -- a refusal's number, and whether it refuses
 pub number-on : (n : ℕ) (r : Refusal) → refuse n ≡ r → (n ≡ 0 → ⊥) → refuses r ≡ true

@@ -1,4 +1,4 @@
--- `calculation::work_pile` meets its contract.
+-- `work::work_pile` meets its contract.
 use mathlib.Core.Path.{_∙_, ap}
 use native.Mathlib.Omega.{arith}
 use Rattle.rules.specs.declared.Answer.{Answer}
@@ -7,11 +7,11 @@ use Rattle.rules.specs.Checks.{depthOf}
 use Rattle.rules.specs.Answers.{refused}
 use Rattle.rules.proofs.AnswerLaws.{clear}
 use Rattle.numbers.proofs.SideLaws.{sides}
-use Rattle.calculation.specs.Work.{noWork}
-use Rattle.calculation.proofs.WorkLaws.{stratum-top, no-tip, no-place, done}
+use Rattle.work.specs.Work.{noWork}
+use Rattle.work.proofs.WorkLaws.{stratum-top, no-tip, no-place, done}
 use borrow.Author.Needs.{needs}
-use Rattle.calculation.proofs.work_pile.Statement.{statement}
-use Rattle.calculation.proofs.work_pile.Tie as tie
+use Rattle.work.proofs.work_pile.Statement.{statement}
+use Rattle.work.proofs.work_pile.Tie as tie
 
 cast-tip : tie.Need-cast-tip
 cast-tip c = search needs
