@@ -19,7 +19,7 @@ use Rattle.bits.specs.Fits.{Bytes}
 use Rattle.logs.specs.declared.Checked.{Checked}
 use Rattle.strata.specs.Good.{Good}
 use Rattle.strata.proofs.GoodLaws.{good}
-use Rattle.calculation.proofs.SliceLaws.{few-slices}
+use Rattle.work.proofs.SliceLaws.{few-slices}
 use Rattle.edited.specs.Asked.{asked, Ready, goes, comes}
 use Rattle.edited.proofs.LengthLaws.{Long, long}
 use Rattle.edited.proofs.StandLaws.{standing}

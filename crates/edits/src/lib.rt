@@ -26,7 +26,7 @@ pub fn edit(
     }
     let old = kept::table_copy(table);
     changes::change(log, kind, k, x, row);
-    let work = calculation::work_out(log, checked.depth, pile, table);
+    let work = work::work_out(log, checked.depth, pile, table);
     let same = kept::kept_count(table, &old, work.used);
     let mut answer = work.answer;
     answer.kept = same as u32;
