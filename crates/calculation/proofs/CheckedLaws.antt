@@ -18,7 +18,7 @@ use Rattle.logs.specs.declared.Checked.{Checked}
 use Rattle.logs.specs.Checks.{checkedLog}
 use Rattle.strata.specs.Good.{Good}
 use Rattle.strata.proofs.GoodLaws.{good}
-use Rattle.calculation.proofs.WorkLaws.{refusal-on, refusal-off}
+use Rattle.work.proofs.WorkLaws.{refusal-on, refusal-off}
 
 -- a log that checks 1 to 4 pass, and its depth
 pub passed : (s : List ℕ) → refuses (checkedLog s .refusal) ≡ false → Good s

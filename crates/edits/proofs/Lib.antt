@@ -1,7 +1,3 @@
--- Laws of an edit.
-pub mod RowListLaws
-pub mod AskLaws
-pub mod EditLaws
-pub mod AcceptedLaws
+-- Laws of the reply, and the promises about edits.
 pub mod ReplyLaws
 pub mod Promise

@@ -18,12 +18,13 @@ use Rattle.rules.specs.Calculation.{freshAnswer, freshTable, lengthsWrong, lent
 use Rattle.rules.specs.Edits.{Edit, editLengths, changeChecks, editChecks, splitLog, editedLog, editAnswer, editReply, editTable, usedSlices, kept, withKept}
 use Rattle.rules.proofs.RefusalLaws.{first-off, first-none, when-off, when-false, either-left}
 use Rattle.rules.proofs.AnswerLaws.{only-millimetres}
-use Rattle.moves.proofs.RowLaws.{Bytes}
-use Rattle.edits.specs.Asked.{asked}
-use Rattle.edits.proofs.AskLaws.{Standing, replaces, inserts, removes, splits, standing, room}
-use Rattle.edits.proofs.EditLaws.{Lent, lent, split-same-ground}
-use Rattle.edits.proofs.AcceptedLaws.{Free, free}
-use Rattle.edits.proofs.ReplyLaws.{Long, long, Accepted, accepted}
+use Rattle.bits.specs.Fits.{Bytes}
+use Rattle.edited.specs.Asked.{asked}
+use Rattle.edited.proofs.StandLaws.{Standing, replaces, inserts, removes, splits, standing, room}
+use Rattle.edited.proofs.EditLaws.{Lent, lent, split-same-ground}
+use Rattle.edited.proofs.AcceptedLaws.{Free, free}
+use Rattle.edited.proofs.LengthLaws.{Long, long}
+use Rattle.edits.proofs.ReplyLaws.{Accepted, accepted}
 
 -- the edit is not refused
 abbrev pub Taken : Edit → List ℕ → List ℕ → List ℕ → Type 0
@@ -64,7 +65,7 @@ split-ground k x row log pile table b h =
     let e : Edit = asked 4 k x row in
     let one = first-off (when (editLengths e log pile table) 1) (first (logChecks log) (changeChecks e log)) h in
     let two = first-off (logChecks log) (changeChecks e log) (one .1) in
-    let g : Long 4 row log pile table = long 4 k x row log pile table (when-off 0 (editLengths e log pile table) (one .0)) in
+    let g : Long 4 row log pile table = long 4 row log pile table (when-off 0 (editLengths e log pile table) (one .0)) in
     let f : Free e log = free e log (two .1) in
     go (lent log (g .log) b (two .0)) f (standing 4 k x row log (f .named))
   where

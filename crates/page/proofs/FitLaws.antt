@@ -24,7 +24,7 @@ use Rattle.rules.specs.Calculation.{slicesOfRows}
 use Rattle.rules.proofs.Basics.{split}
 use Rattle.rules.proofs.FitLaws.{Fit, all-fit}
 use Rattle.tables.proofs.Rules.{friction-most, factor-between}
-use Rattle.calculation.proofs.SliceLaws.{few-slices}
+use Rattle.work.proofs.SliceLaws.{few-slices}
 use Rattle.page.specs.Places.{AllFit, TableOf}
 use Rattle.page.proofs.PlaceLaws.{place-back}
 

@@ -31,7 +31,7 @@ use Rattle.piles.proofs.RoundTrip as PileTrip
 use Rattle.slices.proofs.RoundTrip as SliceTrip
 use Rattle.slices.specs.Fits.{SliceFits}
 use Rattle.calculation.proofs.Promise as Calculation
-use Rattle.edits.specs.Asked.{asked}
+use Rattle.edited.specs.Asked.{asked}
 use Rattle.edits.proofs.Promise as Edits
 
 -- Demand 1. "Every log, pile record, slice table and edit, however damaged, gets a reply": no contract of the door has a condition.

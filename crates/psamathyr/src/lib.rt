@@ -8,7 +8,7 @@ ghost use Rattle.rules.specs.Reading.{readLog, readPile, readSlice, packLogChec
 ghost use Rattle.rules.specs.Answers.{refused};
 ghost use Rattle.rules.specs.Calculation.{calculated, tableAfter};
 ghost use Rattle.rules.specs.Edits.{editReply, editLog, editTable};
-ghost use Rattle.edits.specs.Asked.{asked};
+ghost use Rattle.edited.specs.Asked.{asked};
 
 #[no_mangle]
 pub extern "C" fn psamathyr_calculate(log: &[u8], pile: &[u8], table: &mut [u8]) -> Answer

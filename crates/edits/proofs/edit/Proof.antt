@@ -1,20 +1,24 @@
--- edit: a refused one leaves everything; an accepted one changes the log, which is then read, worked out and held.
+-- edit: a refused one leaves everything; an accepted one changes the log, which is then worked out into the table.
+use mathlib.Core.Path.{_∙_, ap}
+use mathlib.Core.List.{List}
+use Prim.Native.Nat.{ℕ}
 use native.Mathlib.Omega.{arith}
-use Rattle.edits.specs.Asked.{asked}
-use Rattle.edits.proofs.ReplyLaws.{refused-edit, Accepted, accepted, read-good, few, accepted-edit}
+use lib.ListN.{length}
+use Rattle.edited.specs.Asked.{asked}
+use Rattle.edits.proofs.ReplyLaws.{said, refused-edit, Accepted, accepted, good-now, depth-now, few, accepted-edit}
 use borrow.Author.Needs.{needs}
 use Rattle.edits.proofs.edit.Statement.{statement}
 use Rattle.edits.proofs.edit.Tie as tie
 
 -- nothing is refused
 fair : (c : tie.Else1)
-    → let a = c .before .before .before .before .before .before .before .before .before .args in
+    → let a = c .before .before .before .before .before .before .before .before .before .before .args in
     Accepted (asked (a .kind) (a .k) (a .x) (a .row .now)) (a .log .now) (a .pile .now) (a .table .now)
 fair c =
-    accepted _ _ _ _ _ _ _ _ (c .before .before .edit-refusal .ensures) (omega (arith, c .if1 .left)) (λ i. c .before .before .before .before .before .before .before .before .slice-known .given i .fits) (λ i. c .before .before .before .before .before .shared-slice-known2 .given i .fits)
+    accepted _ _ _ _ _ _ _ _ (said _ _ _ _ _ (c .before .before .before .check-edit .ensures)) (omega (arith, c .if1 .left)) (λ i. c .before .before .before .before .before .before .before .before .before .slice-known .given i .fits) (λ i. c .before .before .before .before .before .before .shared-slice-known2 .given i .fits)
 
-edit-refusal-requires : tie.Need-edit-refusal-requires
-edit-refusal-requires c κs = search needs
+check-edit-requires : tie.Need-check-edit-requires
+check-edit-requires c κs = search needs
 
 refused-requires : tie.Need-refused-requires
 refused-requires c κs = search needs
@@ -27,22 +31,31 @@ same-length-2 c = search needs
 
 returns : tie.Need-returns
 returns c =
-    let a = c .before .before .before .before .before .before .before .before .before .before .args in
-    refused-edit (asked (a .kind) (a .k) (a .x) (a .row .now)) (a .log .now) (a .pile .now) (a .table .now) _ _ (c .before .before .before .edit-refusal .ensures) (c .before .if1 .taken) (c .refused .ensures)
+    let a = c .before .before .before .before .before .before .before .before .before .before .before .args in
+    refused-edit (asked (a .kind) (a .k) (a .x) (a .row .now)) (a .log .now) (a .pile .now) (a .table .now) _ _ (said _ _ _ _ _ (c .before .before .before .before .check-edit .ensures)) (c .before .if1 .taken) (c .refused .ensures)
+
+table-copy-requires : tie.Need-table-copy-requires
+table-copy-requires c κs = fair (c .before) .table
 
 change-requires : tie.Need-change-requires
-change-requires c κs = fair (c .before) .ready
-
-read-log-requires : tie.Need-read-log-requires
-read-log-requires c κs = search needs
+change-requires c κs = fair (c .before .before .before) .ready
 
 work-out-requires : tie.Need-work-out-requires
 work-out-requires c κs =
-    (read-good _ _ _ _ (fair (c .before .before .before .before .before .before)) _ (c .before .before .before .before .change .ensures) _ (c .read-log .ensures), fair (c .before .before .before .before .before .before) .pile)
+    let g = fair (c .before .before .before .before .before .before .before .before) in
+    let e = c .before .before .before .before .change .ensures in
+    (good-now _ _ _ _ g _ e, depth-now _ _ _ _ g _ e _ (c .before .before .before .before .before .before .before .before .before .before .before .check-edit .ensures), g .pile, g .table)
 
-hold-requires : tie.Need-hold-requires
-hold-requires c κs =
-    (few _ _ _ _ (fair (c .before .before .before .before .before .before .before .before)) _ (c .before .before .before .before .before .before .change .ensures) _ (c .before .before .read-log .ensures) _ (c .before .work-out .ensures), fair (c .before .before .before .before .before .before .before .before) .table)
+slice-aggregate-kept-count : tie.Need-slice-aggregate-kept-count
+slice-aggregate-kept-count c = search needs
+
+kept-count-requires : tie.Need-kept-count-requires
+kept-count-requires c κs =
+    let g = fair (c .before .before .before .before .before .before .before .before .before .before .before .before .before) in
+    (few _ _ _ _ g _ (c .before .before .before .before .before .before .before .before .before .change .ensures) _ (c .before .before .before .before .work-out .ensures .0 .1), search needs, ap (λ (t : List ℕ). length t) (c .before .before .before .before .before .before .before .before .before .before .before .table-copy .ensures) ∙ g .table)
+
+cast-answer : tie.Need-cast-answer
+cast-answer c = record { fits = omega (arith, few _ _ _ _ (fair (c .before .before .before .before .before .before .before .before .before .before .before .before .before .before .before)) _ (c .before .before .before .before .before .before .before .before .before .before .before .change .ensures) _ (c .before .before .before .before .before .before .work-out .ensures .0 .1), c .before .kept-count .ensures .1) }
 
 same-length-3 : tie.Need-same-length-3
 same-length-3 c = search needs
@@ -52,21 +65,24 @@ same-length-4 c = search needs
 
 returns-2 : tie.Need-returns-2
 returns-2 c =
-    accepted-edit _ _ _ _ (fair (c .before .before .before .before .before .before .before .before .before .before .before)) _ (c .before .before .before .before .before .before .before .before .before .change .ensures) _ (c .before .before .before .before .before .read-log .ensures) _ (c .before .before .before .before .work-out .ensures) _ _ (c .before .before .hold .ensures .0) (c .before .before .hold .ensures .1)
+    let w = c .before .before .before .before .before .before .work-out .ensures in
+    accepted-edit _ _ _ _ (fair (c .before .before .before .before .before .before .before .before .before .before .before .before .before .before .before)) _ (c .before .before .before .before .before .before .before .before .before .before .before .change .ensures) _ _ _ _ _ (w .0 .0) (w .0 .1) (w .1) (c .before .before .before .before .before .before .before .before .before .before .before .before .before .table-copy .ensures) (c .before .kept-count .ensures .0)
 
 pub edit-spec : {M : Type 1} → statement M
 edit-spec =
     tie.close
     (tie.spec
-    edit-refusal-requires
+    check-edit-requires
     refused-requires
     same-length
     same-length-2
     returns
+    table-copy-requires
     change-requires
-    read-log-requires
     work-out-requires
-    hold-requires
+    slice-aggregate-kept-count
+    kept-count-requires
+    cast-answer
     same-length-3
     same-length-4
     returns-2)

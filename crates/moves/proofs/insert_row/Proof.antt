@@ -5,8 +5,8 @@ use Prim.Native.Nat.{ℕ, _+_}
 use native.Mathlib.Omega.{arith}
 use Rattle.rules.specs.Packed.{countOf}
 use Rattle.rules.specs.Edits.{placeByte}
-use Rattle.moves.specs.Places.{inserted}
-use Rattle.moves.proofs.PlaceLaws.{counted-back, inserted-back}
+use Rattle.places.specs.Places.{inserted}
+use Rattle.moves.proofs.LogLaws.{counted-back, inserted-back}
 use borrow.Author.Needs.{needs}
 use Rattle.moves.proofs.insert_row.Statement.{statement}
 use Rattle.moves.proofs.insert_row.Tie as tie

@@ -1,6 +1,6 @@
 -- lower_count: the first byte is one less.
 use native.Mathlib.Omega.{arith}
-use Rattle.moves.proofs.PlaceLaws.{counted}
+use Rattle.moves.proofs.LogLaws.{counted}
 use borrow.Author.Needs.{needs}
 use Rattle.moves.proofs.lower_count.Statement.{statement}
 use Rattle.moves.proofs.lower_count.Tie as tie

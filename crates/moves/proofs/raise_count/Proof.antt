@@ -1,6 +1,6 @@
 -- raise_count: the first byte is one more.
 use native.Mathlib.Omega.{arith}
-use Rattle.moves.proofs.PlaceLaws.{counted}
+use Rattle.moves.proofs.LogLaws.{counted}
 use borrow.Author.Needs.{needs}
 use Rattle.moves.proofs.raise_count.Statement.{statement}
 use Rattle.moves.proofs.raise_count.Tie as tie

@@ -4,8 +4,8 @@ use Prim.Native.Nat.{_-_}
 use native.Mathlib.Omega.{arith}
 use Rattle.rules.specs.Packed.{countOf}
 use Rattle.rules.specs.Edits.{placeByte}
-use Rattle.moves.specs.Places.{closed}
-use Rattle.moves.proofs.PlaceLaws.{counted-back, removed-back}
+use Rattle.places.specs.Places.{closed}
+use Rattle.moves.proofs.LogLaws.{counted-back, removed-back}
 use borrow.Author.Needs.{needs}
 use Rattle.moves.proofs.remove_row.Statement.{statement}
 use Rattle.moves.proofs.remove_row.Tie as tie

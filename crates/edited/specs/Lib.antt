@@ -1,0 +1,3 @@
+-- Definitions beside the rules.
+pub mod Asked
+pub mod Divided

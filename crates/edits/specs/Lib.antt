@@ -1,2 +1,0 @@
--- Definitions beside the rules.
-pub mod Asked

@@ -1,0 +1,106 @@
+// What an edit names: one of four kinds, a row of the log, a split point in it, and a place for a row that comes. Checks 13 and 14.
+// Each `requires` but named_row's is that the log has a first byte; check 1 comes before.
+use rules::Row;
+ghost use mathlib.Core.Path.{_≡_};
+ghost use mathlib.Core.List.{[]};
+ghost use Prim.Native.Nat.{_≤_, _<_};
+ghost use lib.ListN.{length};
+ghost use Rattle.rules.specs.Packed.{countOf};
+ghost use Rattle.rules.specs.Edits as rule;
+ghost use Rattle.edited.specs.Asked.{asked};
+ghost use Rattle.edited.specs.Asked as asking;
+
+const ROW_SIZE: usize = 5;
+
+const ROW_LIMIT: u32 = 64;
+
+// Whether k names one of n rows.
+fn named(k: u32, n: u32) -> bool
+    ensures { λ r. ⌜ r ≡ rule.names k n ⌝ }
+{
+    if k < 1 {
+        return false;
+    }
+    if n < k {
+        return false;
+    }
+    true
+}
+
+// Replace and insert.
+pub fn brings(kind: u32) -> bool
+    ensures { λ r. ⌜ r ≡ rule.brings kind ⌝ }
+{
+    named(kind, 2)
+}
+
+// Insert and split.
+fn grows(kind: u32) -> bool
+    ensures { λ r. ⌜ r ≡ rule.grows kind ⌝ }
+{
+    if kind == 2 {
+        return true;
+    }
+    kind == 4
+}
+
+fn count_of(log: &[u8]) -> u32
+    requires { ⌜ 1 ≤ length (now log) ⌝ }
+    ensures { λ r. ⌜ (r ≡ countOf (now (log .entry))) × (r < 256) ⌝ }
+{
+    log[0] as u32
+}
+
+// Row k of the log.
+pub fn named_row(log: &[u8], k: u32) -> Row
+    requires { ⌜ 1 ≤ k ⌝ }
+    ensures { λ r. ⌜ r ≡ rule.rowNamed (now (log .entry)) k ⌝ }
+{
+    let at = 1 + (k as usize - 1) * ROW_SIZE;
+    rows::read_row(log, at)
+}
+
+fn split_stands(log: &[u8], n: u32, k: u32, x: u32) -> bool
+    requires { ⌜ n ≡ countOf (now log) ⌝ }
+    ensures { λ r. ⌜ r ≡ rule.stands (asked 4 k x []) (now (log .entry)) ⌝ }
+{
+    if !named(k, n) {
+        return false;
+    }
+    if x < 1 {
+        return false;
+    }
+    let row = named_row(log, k);
+    x < row.thickness as u32
+}
+
+// Check 13 the other way round: the edit is one of the four, and names a row and a split point that are there.
+pub fn stands(log: &[u8], kind: u32, k: u32, x: u32) -> bool
+    requires { ⌜ 1 ≤ length (now log) ⌝ }
+    ensures { λ r. ⌜ r ≡ rule.stands (asked kind k x []) (now (log .entry)) ⌝ }
+{
+    let n = count_of(log);
+    match kind {
+        1 => named(k, n),
+        2 => named(k, n + 1),
+        3 => {
+            if !named(k, n) {
+                return false;
+            }
+            1 < n
+        }
+        4 => split_stands(log, n, k, x),
+        _ => false,
+    }
+}
+
+// Check 14.
+pub fn full(log: &[u8], kind: u32) -> bool
+    requires { ⌜ 1 ≤ length (now log) ⌝ }
+    ensures { λ r. ⌜ r ≡ asking.full kind (countOf (now (log .entry))) ⌝ }
+{
+    if !grows(kind) {
+        return false;
+    }
+    ROW_LIMIT <= count_of(log)
+}

@@ -1,0 +1,67 @@
+// The row places of a lent part of a log, moved by five bytes: a place opened, closed, written or given to two rows.
+// The part begins where the first place begins. Each `requires` is that it has so many bytes, which the callers see to.
+ghost use mathlib.Core.Path.{_≡_};
+ghost use Prim.Native.Nat.{_*_, _≤_};
+ghost use lib.ListN.{length};
+ghost use Rattle.rules.specs.Limits.{rowSize};
+ghost use Rattle.places.specs.Places.{opened, closed, put, inserted, divided};
+
+const ROW_SIZE: usize = 5;
+
+// Opens the first place of t: the bytes move down by five, from the end up, and the last five go.
+fn open_place(t: &mut [u8])
+    requires { ⌜ rowSize ≤ length (now t) ⌝ }
+    ensures { λ _. ⌜ now (t .exit) ≡ opened (now (t .entry)) ⌝ }
+{
+    let mut i = t.len();
+    while ROW_SIZE < i {
+        i -= 1;
+        t[i] = t[i - ROW_SIZE];
+    }
+}
+
+// Closes the first place of t: the bytes move up by five, and the last five become zero.
+pub fn close_place(t: &mut [u8])
+    requires { ⌜ rowSize ≤ length (now t) ⌝ }
+    ensures { λ _. ⌜ now (t .exit) ≡ closed (now (t .entry)) ⌝ }
+{
+    let mut i = 0;
+    while i < t.len() {
+        let mut byte = 0;
+        if i + ROW_SIZE < t.len() {
+            byte = t[i + ROW_SIZE];
+        }
+        t[i] = byte;
+        i += 1;
+    }
+}
+
+// Writes the row into the first place of t.
+pub fn put_row(t: &mut [u8], row: [u8; 5])
+    requires { ⌜ rowSize ≤ length (now t) ⌝ }
+    ensures { λ _. ⌜ now (t .exit) ≡ put row (now (t .entry)) ⌝ }
+{
+    let mut i = 0;
+    while i < ROW_SIZE {
+        t[i] = row[i];
+        i += 1;
+    }
+}
+
+// The row comes in before the first place of t.
+pub fn insert_first(t: &mut [u8], row: [u8; 5])
+    requires { ⌜ rowSize ≤ length (now t) ⌝ }
+    ensures { λ _. ⌜ now (t .exit) ≡ inserted row (now (t .entry)) ⌝ }
+{
+    open_place(t);
+    put_row(t, row);
+}
+
+// The row in the first place of t gives way to its two parts.
+pub fn split_first(t: &mut [u8], upper: [u8; 5], lower: [u8; 5])
+    requires { ⌜ 2 * rowSize ≤ length (now t) ⌝ }
+    ensures { λ _. ⌜ now (t .exit) ≡ divided upper lower (now (t .entry)) ⌝ }
+{
+    insert_first(t, upper);
+    put_row(&mut t[ROW_SIZE..], lower);
+}
