@@ -1,10 +1,11 @@
 -- Friction by 20,000ths of the way down and tenths across is that of the definition.
 use mathlib.Core.Path.{_≡_, sym, _∙_, ap}
-use mathlib.Core.List.{List}
+use mathlib.Core.List.{List, []}
 use Prim.Native.Nat.{ℕ, _+_, _*_, _-_, _/_, _<_, _≤_}
 use native.Mathlib.Nat.{add-mul, mul-comm, mul-sub, mul-right-comm, eq-of-mul-eq-mul-right}
 use native.Mathlib.Omega.{arith}
-use Rattle.rules.specs.Tables.{frictionDepths, frictionRows, frictionCell, frictionWeighed, frictionAt, weighed, placeOf, cell}
+use lib.ListN.{getD}
+use Rattle.rules.specs.Tables.{frictionDepths, frictionRows, frictionCell, frictionWeighed, frictionAt, weighed, placeOf}
 use Rattle.rules.specs.Numbers.{friction, frictionPlace, right}
 use Rattle.rules.specs.declared.Place.{Place}
 use Rattle.rules.specs.declared.Soil.{Soil}
@@ -16,8 +17,9 @@ use Rattle.places.specs.Standing.{InTable}
 use Rattle.places.proofs.Search.{in-table}
 use Rattle.places.proofs.Weights.{weighed-le, weighed-is, shared}
 use Rattle.friction.specs.declared.Standing.{Standing}
-use Rattle.friction.specs.Lent.{placeAt, Stands}
-use Rattle.friction.proofs.Metres.{friction-deepens, cells}
+use Rattle.friction_table.specs.Printed.{headed}
+use Rattle.friction.specs.Standings.{placeAt, Stands}
+use Rattle.friction.proofs.Standings.{friction-deepens, cells, cell-is}
 
 -- part of n, down of span: the same share
 shares : (n part down span u l : ℕ) → part * span ≡ down * n
@@ -33,19 +35,26 @@ shares n part down span u l e =
 
 -- a row's cells in a column and the next, weighed across
 abbrev along : List (List ℕ) → ℕ → Column → ℕ
-along rows i c = (10 - c .across) * cell 0 rows i (c .number) + c .across * cell 0 rows i (c .number + 1)
+along rows i c = (10 - c .across) * getD (getD rows i []) (c .number + 1) 0 + c .across * getD (getD rows i []) (c .number + 2) 0
+
+along-is : (rows : List (List ℕ)) (i : ℕ) (c : Column) → rows ≡ headed frictionDepths frictionRows → i ≤ 12
+    → along rows i c ≡ (10 - c .across) * frictionCell i (c .number) + c .across * frictionCell i (c .number + 1)
+along-is rows i c e h =
+    let n : c .number + 2 ≡ c .number + 1 + 1 = omega arith in
+    rw (n, cell-is rows i (c .number) e h, cell-is rows i (c .number + 1) e h)
 
 pub friction-is : (s : Soil) (mid : ℕ) (rows : List (List ℕ)) (st : Standing) (c : Column) (upper lower : ℕ)
-    → rows ≡ frictionRows → Stands mid st → Across 7 (right s) c → upper ≡ along rows (st .row) c → lower ≡ along rows (st .row + 1) c
+    → rows ≡ headed frictionDepths frictionRows → Stands mid st → Across 7 (right s) c
+    → upper ≡ along rows (st .row) c → lower ≡ along rows (st .row + 1) c
     → (20000 - st .part) * upper + st .part * lower ≡ friction s mid
 unfolding placeOf
 friction-is s mid rows st c upper lower r t k e f =
     let p : Place = frictionPlace s mid in
     let w : InTable 11 7 p = in-table frictionDepths 2000 11 7 mid (right s) friction-deepens in
     let u : upper ≡ (10 - p .across) * frictionCell (p .row) (p .column) + p .across * frictionCell (p .row) (p .column + 1) =
-    rw (e, r, t .row, k .across, k .number) in
+    e ∙ along-is rows (st .row) c r (omega arith) ∙ (rw (t .row, k .across, k .number)) in
     let l : lower ≡ (10 - p .across) * frictionCell (p .row + 1) (p .column) + p .across * frictionCell (p .row + 1) (p .column + 1) =
-    rw (f, r, t .row, k .across, k .number) in
+    f ∙ along-is rows (st .row + 1) c r (omega arith) ∙ (rw (t .row, k .across, k .number)) in
     eq-of-mul-eq-mul-right (p .span) (w .weights .some) _ _
     (shares 20000 (st .part) (p .down) (p .span) upper lower (t .part)
     ∙ ap (λ (x : ℕ). x * 20000) (weighed-is p _ _ _ _ upper lower u l) ∙ sym (friction-whole s mid))

@@ -1,2 +1,2 @@
--- What a reading of table 7.3 goes through.
-pub mod Lent
+-- Where a reading of table 7.3 stands.
+pub mod Standings

@@ -1,9 +1,9 @@
 -- `friction::stand` meets its contract.
 use mathlib.Core.Path.{refl}
-use Prim.Native.Nat.{_*_, _-_}
+use Prim.Native.Nat.{_*_, _-_, _/_}
 use native.Mathlib.Omega.{arith}
 use Rattle.columns.proofs.Means.{product}
-use Rattle.friction.proofs.Metres.{row-last, read, stands}
+use Rattle.friction.proofs.Standings.{row-last, read, stands}
 use borrow.Author.Needs.{needs}
 use Rattle.friction.proofs.stand.Statement.{statement}
 use Rattle.friction.proofs.stand.Tie as tie
@@ -23,12 +23,18 @@ index-2-wide c = search needs
 wide-requires : tie.Need-wide-requires
 wide-requires c κs = search needs
 
-element-copy-out-wide : tie.Need-element-copy-out-wide
-element-copy-out-wide c =
+mul-wide-2 : tie.Need-mul-wide-2
+mul-wide-2 c = search needs
+
+index-1-wide-2 : tie.Need-index-1-wide-2
+index-1-wide-2 c =
     let d = c .before .before in
     let o = d .before in
-    let h = row-last (o .args .depths .now) (o .args .metres .now) _ _ (o .pre) (omega arith) (c .wide .ensures .0) in
+    let h = row-last (o .args .metres .now) _ _ (o .pre .index) (omega arith) (c .wide .ensures .0) in
     omega arith
+
+index-2-wide-2 : tie.Need-index-2-wide-2
+index-2-wide-2 c = search needs
 
 wide-requires-2 : tie.Need-wide-requires-2
 wide-requires-2 c κs = search needs
@@ -41,23 +47,23 @@ sub-t8 c =
     let w = c .before .before in
     let d = w .before .before in
     let a = d .before .args in
-    read (a .depths .now) (a .metres .now) (a .mid) _ _ _ _ (d .before .pre) (d .depth-read .ensures) (w .wide .ensures .0)
+    read (a .rows .now) (a .metres .now) (a .mid) _ _ _ _ (d .before .pre) (d .depth-read .ensures) (w .wide .ensures .0)
     (c .wide2 .ensures .0) refl .low
 
-mul-wide-2 : tie.Need-mul-wide-2
-mul-wide-2 c = search needs
+mul-wide-3 : tie.Need-mul-wide-3
+mul-wide-3 c = search needs
 
-index-1-wide-2 : tie.Need-index-1-wide-2
-index-1-wide-2 c = search needs
+index-1-wide-3 : tie.Need-index-1-wide-3
+index-1-wide-3 c = search needs
 
-index-2-wide-2 : tie.Need-index-2-wide-2
-index-2-wide-2 c = search needs
+index-2-wide-3 : tie.Need-index-2-wide-3
+index-2-wide-3 c = search needs
 
 wide-requires-3 : tie.Need-wide-requires-3
 wide-requires-3 c κs = search needs
 
-mul-t22 : tie.Need-mul-t22
-mul-t22 c =
+mul-t24 : tie.Need-mul-t24
+mul-t24 c =
     let w₂ = c .before .before in
     let d = w₂ .before .before .before .before in
     omega (
@@ -72,7 +78,7 @@ returns c =
     let d = w₁ .before .before in
     let a = d .before .args in
     stands (a .mid) _ _ _ _
-    (read (a .depths .now) (a .metres .now) (a .mid) _ _ _ _ (d .before .pre) (d .depth-read .ensures) (w₁ .wide .ensures .0)
+    (read (a .rows .now) (a .metres .now) (a .mid) _ _ _ _ (d .before .pre) (d .depth-read .ensures) (w₁ .wide .ensures .0)
     (w₂ .wide2 .ensures .0) (c .wide3 .ensures .0))
     refl
 
@@ -85,13 +91,15 @@ stand-spec =
     index-1-wide
     index-2-wide
     wide-requires
-    element-copy-out-wide
-    wide-requires-2
-    mul-above
-    sub-t8
     mul-wide-2
     index-1-wide-2
     index-2-wide-2
+    wide-requires-2
+    mul-above
+    sub-t8
+    mul-wide-3
+    index-1-wide-3
+    index-2-wide-3
     wide-requires-3
-    mul-t22
+    mul-t24
     returns)

@@ -1,19 +1,21 @@
 -- The row of a depth by its whole metre, and what the printed table 7.3 has: each by one computed test.
 use mathlib.Core.Path.{_≡_, refl, sym, _∙_, ap}
 use mathlib.Core.Logic.{⊎-elim}
-use mathlib.Core.List.{List, []}
+use mathlib.Core.List.{List, [], _∷_}
 use Prim.Native.Nat.{ℕ, zero, suc, _+_, _*_, _-_, _/_, _<_, _≤_, min, max}
 use native.Mathlib.Nat.{mul-le-mul-left, mul-comm, mul-assoc}
+use native.Mathlib.Numerals.{add-one}
 use native.Mathlib.Omega.{arith}
 use lib.Dec.{T, eqb, leb, leb→le, eqb→eq}
-use lib.ListN.{getD}
+use lib.ListN.{getD, length}
 use Rattle.rules.specs.Tables.{frictionDepths, frictionRows, frictionCell, rowFor, placeOf}
 use Rattle.rules.proofs.Basics.{split}
 use Rattle.rules.proofs.TableLaws.{every, at, row-stops, row-goes, row-le}
 use Rattle.places.specs.Standing.{Deepens, Between, InTable}
 use Rattle.places.proofs.Search.{steps, parts, found, in-table}
 use Rattle.friction.specs.declared.Standing.{Standing}
-use Rattle.friction.specs.Lent.{apart, Indexed, Lent, placeAt, Stands}
+use Rattle.friction_table.specs.Printed.{headed, apart, Index, Lent}
+use Rattle.friction.specs.Standings.{placeAt, Stands}
 
 -- by half millimetres
 pub friction-deepens : Deepens frictionDepths 2000 11
@@ -44,10 +46,23 @@ by-metre ds (suc n) i d =
     row-goes ds 2000 n i d h ∙ by-metre ds n (i + 1) d ∙ sym (row-goes ds 1 n i (d / 2000) (omega arith)))
     (split d (getD ds (i + 1) 0 * 2000))
 
-pub row-last : (ds : List ℕ) (ms : List (List ℕ)) (k row : ℕ) → Indexed ds ms → k < 36 → row ≡ getD (getD ms k []) 0 0 → row ≤ 11
-row-last ds ms k row l h e = omega (arith, e ∙ l .row k h, row-le frictionDepths 1 11 0 k)
+pub row-last : (ms : List (List ℕ)) (k row : ℕ) → Index ms → k < 36 → row ≡ getD (getD ms k []) 0 0 → row ≤ 11
+row-last ms k row l h e = omega (arith, e ∙ l .row k h, row-le frictionDepths 1 11 0 k)
 
--- the lent arrays read at whole metre k of a depth
+-- a row is its depth and then its cells
+row-is : (ds : List ℕ) (rs : List (List ℕ)) (i : ℕ) → i < length ds → i < length rs → getD (headed ds rs) i [] ≡ getD ds i 0 ∷ getD rs i []
+row-is [] rs i h l = absurd (omega arith)
+row-is (d ∷ ds) [] i h l = absurd (omega arith)
+row-is (d ∷ ds) (r ∷ rs) zero h l = refl
+row-is (d ∷ ds) (r ∷ rs) (suc i) h l = row-is ds rs i (omega arith) (omega arith)
+
+pub depth-is : (rows : List (List ℕ)) (i : ℕ) → rows ≡ headed frictionDepths frictionRows → i ≤ 12 → getD (getD rows i []) 0 0 ≡ getD frictionDepths i 0
+depth-is rows i e h = rw (e, row-is frictionDepths frictionRows i (omega arith) (omega arith))
+
+pub cell-is : (rows : List (List ℕ)) (i j : ℕ) → rows ≡ headed frictionDepths frictionRows → i ≤ 12 → getD (getD rows i []) (j + 1) 0 ≡ frictionCell i j
+cell-is rows i j e h = rw (e, row-is frictionDepths frictionRows i (omega arith) (omega arith), add-one)
+
+-- the lent arrays read at the whole metre of a depth
 pub record Found (mid depth row above share : ℕ) : Type 0 where
   pub row-is : row ≡ placeAt mid .row
   pub last : row ≤ 11
@@ -55,16 +70,16 @@ pub record Found (mid depth row above share : ℕ) : Type 0 where
   pub down : depth - above * 2000 ≡ placeAt mid .down
   pub even : share * placeAt mid .span ≡ 20000
 
-pub read : (ds : List ℕ) (ms : List (List ℕ)) (mid depth row above share : ℕ) → Indexed ds ms → depth ≡ max 2000 (min mid 70000)
-    → row ≡ getD (getD ms (depth / 2000) []) 0 0 → above ≡ getD ds row 0 → share ≡ getD (getD ms (depth / 2000) []) 1 0
+pub read : (rs ms : List (List ℕ)) (mid depth row above share : ℕ) → Lent rs ms → depth ≡ max 2000 (min mid 70000)
+    → row ≡ getD (getD ms (depth / 2000) []) 0 0 → above ≡ getD (getD rs row []) 0 0 → share ≡ getD (getD ms (depth / 2000) []) 1 0
     → Found mid depth row above share
 unfolding placeOf
-read ds ms mid depth row above share l e f g h =
+read rs ms mid depth row above share l e f g h =
     let k : depth / 2000 < 36 = omega arith in
-    let r : row ≡ rowFor frictionDepths 2000 11 0 depth = f ∙ l .row (depth / 2000) k ∙ sym (by-metre frictionDepths 11 0 depth) in
+    let r : row ≡ rowFor frictionDepths 2000 11 0 depth = f ∙ l .index .row (depth / 2000) k ∙ sym (by-metre frictionDepths 11 0 depth) in
     let b : Between frictionDepths 2000 0 11 depth row = found frictionDepths 2000 11 depth row (omega arith) (omega arith) r in
-    let a : above ≡ getD frictionDepths row 0 = rw (g, l .printed) in
-    let s : share * apart (rowFor frictionDepths 1 11 0 (depth / 2000)) ≡ 20000 = rw h (l .share (depth / 2000) k) in
+    let a : above ≡ getD frictionDepths row 0 = g ∙ depth-is rs row (l .table) (omega arith) in
+    let s : share * apart (rowFor frictionDepths 1 11 0 (depth / 2000)) ≡ 20000 = rw h (l .index .share (depth / 2000) k) in
     record {
       row-is = rw (r, e);
       last = omega arith;
@@ -88,16 +103,3 @@ stands mid depth above share r f e =
       last = f .last;
       whole = rw d (part-fits (placeAt mid .down) (placeAt mid .span) share (t .weights .down) (f .even));
     }
-
--- the arrays as they are lent
-pub lent : (ms : List (List ℕ)) → T (every 36 (λ k. eqb (getD (getD ms k []) 0 0) (rowFor frictionDepths 1 11 0 k)))
-    → T (every 36 (λ k. eqb (getD (getD ms k []) 1 0 * apart (rowFor frictionDepths 1 11 0 k)) 20000))
-    → Lent frictionDepths frictionRows ms
-lent ms t u = record {
-  cells = refl;
-  metres-of = record {
-    printed = refl;
-    row = λ k h. eqb→eq _ _ (at 36 (λ i. eqb (getD (getD ms i []) 0 0) (rowFor frictionDepths 1 11 0 i)) t k h);
-    share = λ k h. eqb→eq _ _ (at 36 (λ i. eqb (getD (getD ms i []) 1 0 * apart (rowFor frictionDepths 1 11 0 i)) 20000) u k h);
-  };
-}
