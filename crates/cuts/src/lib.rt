@@ -39,8 +39,8 @@ fn next_slice(pile: Pile, soil: Soil, at: u64, bottom: u64) -> Slice
     let tip = pile.tip as u64;
     let thickness = smaller(smaller(SLICE_LIMIT, tip - at), bottom - at);
     // Friction is read at the mid-depth, in half millimetres.
-    let friction = tables::friction(soil, at + at + thickness);
-    let factor = tables::factor(pile.method, soil.kind);
+    let friction = friction::friction(soil, at + at + thickness);
+    let factor = factors::factor(pile.method, soil.kind);
     Slice {
         top: at as u16,
         thickness: thickness as u16,
