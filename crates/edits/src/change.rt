@@ -38,8 +38,8 @@ fn split(log: &mut [u8], k: u32, x: u32)
     ensures { λ _. ⌜ now (log .exit) ≡ splitLog k x (now (log .entry)) ⌝ }
 {
     let row = named_row(log, k);
-    let upper = records::row_bytes(part(x as u16, row));
-    let lower = records::row_bytes(part(row.thickness - x as u16, row));
+    let upper = rows::row_bytes(part(x as u16, row));
+    let lower = rows::row_bytes(part(row.thickness - x as u16, row));
     moves::split_row(log, k as usize, upper, lower);
 }
 

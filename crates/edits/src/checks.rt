@@ -75,7 +75,7 @@ pub(crate) fn named_row(log: &[u8], k: u32) -> Row
     ensures { λ r. ⌜ r ≡ rule.rowNamed (now (log .entry)) k ⌝ }
 {
     let at = 1 + (k as usize - 1) * ROW_SIZE;
-    records::read_row(log, at)
+    rows::read_row(log, at)
 }
 
 // Check 1, of every piece that the edit's kind uses.
@@ -149,7 +149,7 @@ fn new_row_refusal(kind: u32, k: u32, row: &[u8]) -> Refusal
     if !brings(kind) {
         return refuse(0);
     }
-    let f = records::row_field(records::read_row(row, 0));
+    let f = rows::row_field(rows::read_row(row, 0));
     if 0 < f {
         return Refusal {
             number: 3,
@@ -181,7 +181,7 @@ fn come(kind: u32, row: &[u8]) -> u64
     if !brings(kind) {
         return 0;
     }
-    let new = records::read_row(row, 0);
+    let new = rows::read_row(row, 0);
     new.thickness as u64
 }
 

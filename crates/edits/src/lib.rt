@@ -62,7 +62,7 @@ pub fn edit(
         return refused(refusal);
     }
     change(log, kind, k, x, row);
-    let read = records::read_log(log);
+    let read = logs::read_log(log);
     let work = calculation::work_out(read.log, pile);
     hold(work, table)
 }

@@ -25,7 +25,7 @@ use Rattle.rules.proofs.Basics.{split}
 use Rattle.rules.proofs.FitLaws.{Fit, all-fit}
 use Rattle.friction.proofs.Reading.{friction-most}
 use Rattle.factors.proofs.Laws.{factor-between}
-use Rattle.calculation.proofs.TableLaws.{few-slices}
+use Rattle.work.proofs.SliceLaws.{few-slices}
 use Rattle.page.specs.Places.{AllFit, TableOf}
 use Rattle.page.proofs.PlaceLaws.{place-back}
 

@@ -8,7 +8,7 @@ use lib.ListN.{getD, drop, replicate}
 use Rattle.rules.specs.declared.Slice.{Slice}
 use Rattle.rules.specs.Packed.{bitsAt, sliceAt, sliceNumber, sevenBytes, sliceBytes, slicesBytes}
 use Rattle.rules.specs.Reading.{noSlice}
-use Rattle.records.proofs.BitLaws.{Blank, bits-part, bits-blank}
+use Rattle.bits.proofs.BitLaws.{Blank, bits-part, bits-blank}
 use Rattle.page.specs.Places.{Fits, AllFit}
 
 -- every element is a byte

@@ -43,12 +43,12 @@ fn lay_out(bytes: &mut [u8], answer: Answer, table: &[u8]) -> usize
         return at;
     }
     let mut place: u32 = 0;
-    let first = records::read_slice(table, place);
+    let first = slices::read_slice(table, place);
     let mut slice = first.slice;
     while slice.thickness != 0 {
         at = layout::put_slice(bytes, at, slice);
         place += 1;
-        let next = records::read_slice(table, place);
+        let next = slices::read_slice(table, place);
         slice = next.slice;
     }
     layout::put_total(bytes, at, answer)

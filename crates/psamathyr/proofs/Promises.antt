@@ -25,8 +25,11 @@ use Rattle.rules.proofs.AnswerLaws.{refused-from}
 use Rattle.rules.proofs.Known as Known
 use Rattle.rules.proofs.RunLaws as RunLaws
 use Rattle.rules.proofs.Replies as Replies
-use Rattle.records.proofs.RoundTrip as RoundTrip
-use Rattle.records.specs.Fits.{Bytes, SliceFits}
+use Rattle.bits.specs.Fits.{Bytes}
+use Rattle.packing.proofs.RoundTrip as LogTrip
+use Rattle.piles.proofs.RoundTrip as PileTrip
+use Rattle.slices.proofs.RoundTrip as SliceTrip
+use Rattle.slices.specs.Fits.{SliceFits}
 use Rattle.calculation.proofs.Promise as Calculation
 use Rattle.edits.specs.Asked.{asked}
 use Rattle.edits.proofs.Promise as Edits
@@ -81,19 +84,19 @@ kept-is e log pile table h = rw h
 
 -- "records round-trip both ways"
 pub log-round-trip : (l : Log) (s : List ℕ) → length (l .rows) ≡ rowLimit → refuses (packLogCheck l s) ≡ false → readLog (logBytes l) ≡ record { refusal = nothing; log = l }
-log-round-trip l s e h = RoundTrip.log-packed-read l s e h
+log-round-trip l s e h = LogTrip.log-packed-read l s e h
 
 pub log-round-trip-back : (s : List ℕ) → Bytes s → refuses (readLog s .refusal) ≡ false → logBytes (readLog s .log) ≡ s
-log-round-trip-back s b h = RoundTrip.log-read-packed s b h
+log-round-trip-back s b h = LogTrip.log-read-packed s b h
 
 pub pile-round-trip : (p : Pile) (s : List ℕ) → p .head < 65536 → p .tip < 65536 → refuses (packPileCheck p s) ≡ false → readPile (pileBytes p) ≡ record { refusal = nothing; pile = p }
-pile-round-trip p s i j h = RoundTrip.pile-packed-read p s i j h
+pile-round-trip p s i j h = PileTrip.pile-packed-read p s i j h
 
 pub pile-round-trip-back : (s : List ℕ) → Bytes s → refuses (readPile s .refusal) ≡ false → pileBytes (readPile s .pile) ≡ s
-pile-round-trip-back s b h = RoundTrip.pile-read-packed s b h
+pile-round-trip-back s b h = PileTrip.pile-read-packed s b h
 
 pub slice-round-trip : (c : Slice) (s : List ℕ) → SliceFits c → length s ≡ sliceSize → Bytes s → (sliceAt (sliceBytes c) 0 ≡ c) × (sliceBytes (sliceAt s 0) ≡ s)
-slice-round-trip c s f e b = (RoundTrip.slice-packed-read c f, RoundTrip.slice-read-packed s e b)
+slice-round-trip c s f e b = (SliceTrip.slice-packed-read c f, SliceTrip.slice-read-packed s e b)
 
 -- Demand 3. "After any run of edits the held answer and slice table are those worked out afresh from which soil stands at each millimetre.":
 -- from any log and table bytes, once an edit is accepted, with the pile record of the last accepted edit.

@@ -2,7 +2,6 @@
 use rules::Answer;
 use rules::LogRead;
 use rules::PileRead;
-use rules::Refusal;
 use rules::SliceRead;
 ghost use mathlib.Core.Path.{_≡_};
 ghost use Rattle.rules.specs.Reading.{readLog, readPile, readSlice, packLogCheck, packedLog, packPileCheck, packedPile};
@@ -40,7 +39,7 @@ pub extern "C" fn psamathyr_edit(
 pub extern "C" fn psamathyr_read_log(log: &[u8]) -> LogRead
     ensures { λ r. ⌜ r ≡ readLog (now (log .entry)) ⌝ }
 {
-    records::read_log(log)
+    logs::read_log(log)
 }
 
 // Looks at count and rows only.
@@ -50,14 +49,14 @@ pub extern "C" fn psamathyr_pack_log(fields: LogRead, log: &mut [u8]) -> Answer
     ensures log { λ _. ⌜ now (log .exit) ≡ packedLog (fields .log) (now (log .entry)) ⌝ }
 {
     let rows = fields.log;
-    packed(records::pack_log(rows, log))
+    replies::refused(packing::pack_log(rows, log))
 }
 
 #[no_mangle]
 pub extern "C" fn psamathyr_read_pile(pile: &[u8]) -> PileRead
     ensures { λ r. ⌜ r ≡ readPile (now (pile .entry)) ⌝ }
 {
-    records::read_pile(pile)
+    piles::read_pile(pile)
 }
 
 // Looks at section to zero only.
@@ -67,27 +66,12 @@ pub extern "C" fn psamathyr_pack_pile(fields: PileRead, pile: &mut [u8]) -> Answ
     ensures pile { λ _. ⌜ now (pile .exit) ≡ packedPile (fields .pile) (now (pile .entry)) ⌝ }
 {
     let parts = fields.pile;
-    packed(records::pack_pile(parts, pile))
+    replies::refused(piles::pack_pile(parts, pile))
 }
 
 #[no_mangle]
 pub extern "C" fn psamathyr_read_slice(table: &[u8], place: u32) -> SliceRead
     ensures { λ r. ⌜ r ≡ readSlice (now (table .entry)) place ⌝ }
 {
-    records::read_slice(table, place)
-}
-
-// A packing's reply: the refusal, row and field, the rest 0.
-fn packed(refusal: Refusal) -> Answer
-    ensures { λ r. ⌜ r ≡ refused refusal ⌝ }
-{
-    Answer {
-        refusal: refusal,
-        kept: 0,
-        line: 0,
-        tip: 0,
-        shaft: 0,
-        capacity: 0,
-        uplift: 0,
-    }
+    slices::read_slice(table, place)
 }

@@ -1,4 +1,4 @@
-// Runs the cases of standard input through the crate records, and prints a line for each; stdout has what document 01 says.
+// Runs the cases of standard input through the crates rows, logs, packing, piles and slices, and prints a line for each; stdout has what document 01 says.
 //
 // A case: its kind, two bytes with a length, two bytes with how many bytes follow, and those bytes. What is read is that long,
 // the bytes that follow and then zeros, and the last two of 600 say which place or byte; what is packed goes to a buffer that long, 165 in every byte.

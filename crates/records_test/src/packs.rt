@@ -46,7 +46,7 @@ fn log_given(given: [u8; 600]) -> Log {
 }
 
 pub(crate) fn pack_log(given: [u8; 600], buf: &mut [u8]) {
-    let r = records::pack_log(log_given(given), buf);
+    let r = packing::pack_log(log_given(given), buf);
     io::write_all(STDOUT_FILENO, b"packlog");
     refusal(r);
     bytes(buf);
@@ -64,7 +64,7 @@ pub(crate) fn pack_pile(given: [u8; 600], buf: &mut [u8]) {
         tip: wide(given[8], given[9]),
         zero: given[10],
     };
-    let r = records::pack_pile(p, buf);
+    let r = piles::pack_pile(p, buf);
     io::write_all(STDOUT_FILENO, b"packpile");
     refusal(r);
     bytes(buf);
@@ -82,7 +82,7 @@ pub(crate) fn pack_slice(given: [u8; 600]) {
         factor: given[8],
     };
     io::write_all(STDOUT_FILENO, b"packslice");
-    bytes(&records::slice_bytes(c));
+    bytes(&slices::slice_bytes(c));
     end_line();
 }
 
@@ -90,7 +90,7 @@ pub(crate) fn pack_slice(given: [u8; 600]) {
 pub(crate) fn pack_row(given: [u8; 600]) {
     let r = row_given(given, 0);
     io::write_all(STDOUT_FILENO, b"packrow");
-    bytes(&records::row_bytes(r));
-    number(records::row_field(r) as u64);
+    bytes(&rows::row_bytes(r));
+    number(rows::row_field(r) as u64);
     end_line();
 }

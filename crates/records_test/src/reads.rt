@@ -9,7 +9,7 @@ use super::show::used_row;
 use libc::STDOUT_FILENO;
 
 pub(crate) fn read_log(s: &[u8]) {
-    let got = records::read_log(s);
+    let got = logs::read_log(s);
     io::write_all(STDOUT_FILENO, b"log");
     refusal(got.refusal);
     let l = got.log;
@@ -20,7 +20,7 @@ pub(crate) fn read_log(s: &[u8]) {
 
 // Every row that is used, field by field.
 pub(crate) fn read_rows(s: &[u8]) {
-    let got = records::read_log(s);
+    let got = logs::read_log(s);
     io::write_all(STDOUT_FILENO, b"rows");
     let l = got.log;
     let mut i: usize = 0;
@@ -33,7 +33,7 @@ pub(crate) fn read_rows(s: &[u8]) {
 }
 
 pub(crate) fn read_pile(s: &[u8]) {
-    let got = records::read_pile(s);
+    let got = piles::read_pile(s);
     io::write_all(STDOUT_FILENO, b"pile");
     refusal(got.refusal);
     let p = got.pile;
@@ -49,7 +49,7 @@ pub(crate) fn read_pile(s: &[u8]) {
 
 // Place i, counted from 0.
 pub(crate) fn read_slice(s: &[u8], i: u16) {
-    let got = records::read_slice(s, i as u32);
+    let got = slices::read_slice(s, i as u32);
     io::write_all(STDOUT_FILENO, b"slice");
     number(got.refusal as u64);
     let c = got.slice;
@@ -62,10 +62,10 @@ pub(crate) fn read_slice(s: &[u8], i: u16) {
 
 // The row that begins at byte i, its wrong field, and its bytes.
 pub(crate) fn read_row(s: &[u8], i: u16) {
-    let r = records::read_row(s, i as usize);
+    let r = rows::read_row(s, i as usize);
     io::write_all(STDOUT_FILENO, b"row");
     row(r);
-    number(records::row_field(r) as u64);
-    bytes(&records::row_bytes(r));
+    number(rows::row_field(r) as u64);
+    bytes(&rows::row_bytes(r));
     end_line();
 }

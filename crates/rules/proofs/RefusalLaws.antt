@@ -1,12 +1,12 @@
--- Laws of a first refusal.
+-- Laws of a first refusal, and of the tests that it is made of.
 use mathlib.Core.Path.{_≡_, refl, sym, _∙_, ap}
 use mathlib.Core.Bool.{Bool, true, false, true≢false}
-use Prim.Native.Nat.{ℕ, suc}
+use Prim.Native.Nat.{ℕ, suc, _≤_}
 use lib.Dec.{ltb}
 use native.Mathlib.Omega.{arith}
-use borrow.Author.Tests.{lt-ltb}
+use borrow.Author.Tests.{lt-ltb, ltb-false}
 use Rattle.rules.specs.declared.Refusal.{Refusal}
-use Rattle.rules.specs.Base.{pick, either, refuse, nothing, when, refuses, first}
+use Rattle.rules.specs.Base.{pick, either, neg, within, refuse, nothing, when, refuses, first}
 
 pub first-left : (a b : Refusal) → refuses a ≡ true → first a b ≡ a
 unfolding first
@@ -49,3 +49,26 @@ either-left false b e = refl
 pub either-right : (a b : Bool) → either a b ≡ false → b ≡ false
 either-right true b e = absurd (true≢false e)
 either-right false b e = e
+
+neg-true : (t : Bool) → neg t ≡ true → t ≡ false
+neg-true true e = sym e
+neg-true false e = refl
+
+pub within-low : (low high n : ℕ) → within low high n ≡ true → low ≤ n
+within-low low high n e = ltb-false n low (either-left (ltb n low) (ltb high n) (neg-true _ e))
+
+pub within-high : (low high n : ℕ) → within low high n ≡ true → n ≤ high
+within-high low high n e = ltb-false high n (either-right (ltb n low) (ltb high n) (neg-true _ e))
+
+-- a field number that is 0 was not picked
+pub none-picked : (t : Bool) (n k : ℕ) → pick t n (suc k) ≡ 0 → (t ≡ true) × (n ≡ 0)
+none-picked true n k e = (refl, e)
+none-picked false n k e = absurd (omega arith)
+
+-- nor was a refusal that goes with a field number above 0
+pub not-picked : (f : ℕ) (r on : Refusal) → refuses r ≡ true → refuses (pick (ltb 0 f) r on) ≡ false → (f ≡ 0) × (refuses on ≡ false)
+not-picked f r on h e = go (ltb 0 f) refl e
+  where
+    go : (t : Bool) → ltb 0 f ≡ t → refuses (pick t r on) ≡ false → (f ≡ 0) × (refuses on ≡ false)
+    go true q k = absurd (true≢false (sym h ∙ k))
+    go false q k = let l : f ≤ 0 = ltb-false 0 f q in (omega arith, k)

@@ -18,11 +18,11 @@ use Rattle.rules.proofs.Basics.{split, sure, same-eq}
 use Rattle.rules.proofs.GroundLaws.{soil-here, soil-below}
 use Rattle.rules.proofs.PieceLaws.{turn}
 
-lead-on : (s : Soil) (r : Row) (rs : List Row) → same s (soilOf r) ≡ true → lead s (r ∷ rs) ≡ r .thickness + lead s rs
+pub lead-on : (s : Soil) (r : Row) (rs : List Row) → same s (soilOf r) ≡ true → lead s (r ∷ rs) ≡ r .thickness + lead s rs
 unfolding lead
 lead-on s r rs e = rw e
 
-lead-off : (s : Soil) (r : Row) (rs : List Row) → same s (soilOf r) ≡ false → lead s (r ∷ rs) ≡ 0
+pub lead-off : (s : Soil) (r : Row) (rs : List Row) → same s (soilOf r) ≡ false → lead s (r ∷ rs) ≡ 0
 unfolding lead
 lead-off s r rs e = rw e
 

@@ -43,11 +43,11 @@ turned g s r q b h k =
     (λ (e : same s r ≡ false). rw e (apart g s r b k e))
     (sure (same s r))
 
-top-here : (r : Row) (rs : List Row) (s : Soil) (q b m : ℕ) → m < b + r .thickness → topFrom (r ∷ rs) s q b m ≡ pick (same s (soilOf r)) q b
+pub top-here : (r : Row) (rs : List Row) (s : Soil) (q b m : ℕ) → m < b + r .thickness → topFrom (r ∷ rs) s q b m ≡ pick (same s (soilOf r)) q b
 unfolding topFrom
 top-here r rs s q b m h = rw (lt-ltb m (b + r .thickness) h)
 
-top-below : (r : Row) (rs : List Row) (s : Soil) (q b m : ℕ) → b + r .thickness ≤ m → topFrom (r ∷ rs) s q b m ≡ topFrom rs (soilOf r) (pick (same s (soilOf r)) q b) (b + r .thickness) m
+pub top-below : (r : Row) (rs : List Row) (s : Soil) (q b m : ℕ) → b + r .thickness ≤ m → topFrom (r ∷ rs) s q b m ≡ topFrom rs (soilOf r) (pick (same s (soilOf r)) q b) (b + r .thickness) m
 unfolding topFrom
 top-below r rs s q b m h = rw (le-ltb m (b + r .thickness) h)
 

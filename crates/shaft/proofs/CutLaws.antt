@@ -12,29 +12,20 @@ use Rattle.rules.specs.declared.Soil.{Soil}
 use Rattle.rules.specs.declared.Pile.{Pile}
 use Rattle.rules.specs.declared.Slice.{Slice}
 use Rattle.rules.specs.Limits.{placeLimit, sliceSize, tableSize, sliceLimit}
-use Rattle.rules.specs.Packed.{sliceBytes, slicesBytes, tableBytes}
+use Rattle.rules.specs.Packed.{slicesBytes, tableBytes}
 use Rattle.rules.specs.Checks.{depthOf}
 use Rattle.rules.specs.Reading.{noSlice}
 use Rattle.rules.specs.Ground.{soilAt}
 use Rattle.rules.specs.Pieces.{piece, piecesFrom, pieces}
-use Rattle.rules.specs.Numbers.{friction, factor, sliceOf, slicesOf, total}
+use Rattle.rules.specs.Numbers.{sliceOf, slicesOf, total}
 use Rattle.rules.specs.ByRows.{Positive, thickAt}
 use Rattle.rules.proofs.RowLaws.{next}
 use Rattle.shaft.specs.declared.Shaft.{Shaft}
-use Rattle.shaft.specs.Cut.{cutOf, noShaft, shaftOf, Read, Weighed}
+use Rattle.cuts.specs.declared.Cut.{Cut}
+use Rattle.cuts.specs.Cuts.{sliceHere, putAt, Done}
+use Rattle.shaft.specs.Shafts.{cutOf, noShaft, shaftOf, tableOf}
 use Rattle.shaft.proofs.StratumLaws.{Whole}
-use Rattle.shaft.proofs.TableLaws.{Filled, filled-more, total-more}
-
-pub read-is : (p : Pile) (s : Soil) (a b x t f k : ℕ) → x ≡ min sliceLimit (p .tip - a) → t ≡ min x (b - a) → f ≡ friction s (a + a + t) → f ≤ 20000000
-    → k ≡ factor (p .method) (s .kind) → k ≤ 8
-    → Read p (piece a (min (min sliceLimit (p .tip - a)) (b - a)) s) (record { top = a; thickness = t; friction = f; factor = k })
-unfolding sliceOf
-read-is p s a b x t f k ex et ef lf ek lk =
-    let e : t ≡ min (min sliceLimit (p .tip - a)) (b - a) = et ∙ ap (λ (y : ℕ). min y (b - a)) ex in
-    record {
-      is = rw (ef, ek, e);
-      fields = record { thickness = omega arith; friction = lf; factor = lk };
-    }
+use Rattle.cuts.proofs.TableLaws.{Filled, filled-long, filled-more, total-more}
 
 module _ (l : List Slice) (k : ℕ) (x : Slice) (r : List Slice) (e : drop k l ≡ x ∷ r) where
   head-in : k < length l
@@ -62,24 +53,26 @@ pub record Doing (rs : List Row) (p : Pile) (used at : ℕ) (bytes : List ℕ) (
   pub small : sum ≤ 160000000 * (at - p .head)
   pub rest : drop used (cutOf rs p) ≡ slicesOf p (piecesFrom (soilAt rs) at (p .tip - at))
 
-pub doing-none : (rs : List Row) (p : Pile) → p .head < p .tip → Doing rs p 0 (p .head) (replicate tableSize 0) 0
+pub doing-none : (rs : List Row) (p : Pile) (bytes : List ℕ) → p .head < p .tip → bytes ≡ replicate tableSize 0 → Doing rs p 0 (p .head) bytes 0
 unfolding pieces total slicesBytes
-doing-none rs p h = record {
+doing-none rs p bytes h e = record {
   low = omega arith;
   high = omega arith;
   few = omega arith;
-  table = (refl, refl);
+  table = (refl, e);
   sums = refl;
   small = omega arith;
   rest = refl;
 }
 
+pub doing-long : (rs : List Row) (p : Pile) (used at : ℕ) (bytes : List ℕ) (sum : ℕ) → Doing rs p used at bytes sum → length bytes ≡ tableSize
+doing-long rs p used at bytes sum g = filled-long (take used (cutOf rs p)) bytes used (g .few) (g .table)
+
 less-both : (a b c : ℕ) → a - b - c ≡ a - (b + c)
 less-both a b c = omega arith
 
 -- the slice at depth at is the next of the millimetre definition
-next-is : (rs : List Row) (p : Pile) (at bottom : ℕ) (s : Soil) (c : Slice) → Positive rs → p .tip ≤ depthOf rs → at < p .tip → Whole rs at bottom s
-    → c ≡ sliceOf p (piece at (min (min sliceLimit (p .tip - at)) (bottom - at)) s)
+next-is : (rs : List Row) (p : Pile) (at bottom : ℕ) (s : Soil) (c : Slice) → Positive rs → p .tip ≤ depthOf rs → at < p .tip → Whole rs at bottom s → c ≡ sliceHere p s at bottom
     → slicesOf p (piecesFrom (soilAt rs) at (p .tip - at)) ≡ c ∷ slicesOf p (piecesFrom (soilAt rs) (at + c .thickness) (p .tip - (at + c .thickness)))
 unfolding slicesOf sliceOf
 next-is rs p at bottom s c z d h w e =
@@ -94,52 +87,68 @@ next-is rs p at bottom s c z d h w e =
     ∙ ap₂ (λ (x : Slice) (y : List Slice). x ∷ y) m (ap (λ (y : ℕ). slicesOf p (piecesFrom (soilAt rs) (at + t) y)) j)
     ∙ ap (λ (y : ℕ). c ∷ slicesOf p (piecesFrom (soilAt rs) (at + y) (p .tip - (at + y)))) (sym v)
 
-module _ (rs : List Row) (p : Pile) (used at bottom : ℕ) (s : Soil) (bytes : List ℕ) (sum : ℕ) (c : Slice)
-    (z : Positive rs) (d : p .tip ≤ depthOf rs) (h : at < p .tip) (w : Whole rs at bottom s) (g : Doing rs p used at bytes sum)
-    (e : c ≡ sliceOf p (piece at (min (min sliceLimit (p .tip - at)) (bottom - at)) s)) where
-  left : drop used (cutOf rs p) ≡ c ∷ slicesOf p (piecesFrom (soilAt rs) (at + c .thickness) (p .tip - (at + c .thickness)))
-  left = g .rest ∙ next-is rs p at bottom s c z d h w e
+-- how thick a slice is that is cut at depth at
+pub thick : (p : Pile) (s : Soil) (at bottom : ℕ) (r : Cut) → Done (sliceHere p s at bottom) r → r .thickness ≡ min (min sliceLimit (p .tip - at)) (bottom - at)
+unfolding sliceOf
+thick p s at bottom r y = y .thick
 
-  pub thick : c .thickness ≡ min (min sliceLimit (p .tip - at)) (bottom - at)
-  unfolding sliceOf
-  thick = ap (λ (x : Slice). x .thickness) e
+module _ (rs : List Row) (p : Pile) (used at bottom : ℕ) (s : Soil) (bytes : List ℕ) (sum : ℕ)
+    (z : Positive rs) (d : p .tip ≤ depthOf rs) (h : at < p .tip) (w : Whole rs at bottom s) (g : Doing rs p used at bytes sum) where
+  abbrev here : Slice
+  here = sliceHere p s at bottom
 
-  pub doing-more : (b′ : List ℕ) (v : ℕ) → used < placeLimit → b′ ≡ take (used * sliceSize) bytes ++ sliceBytes c ++ drop (used * sliceSize + sliceSize) bytes → Weighed c v
-      → Doing rs p (used + 1) (at + c .thickness) b′ (sum + v)
-  doing-more b′ v f q y =
-      let more : take (used + 1) (cutOf rs p) ≡ take used (cutOf rs p) ++ (c ∷ []) = head-take (cutOf rs p) used c _ left in
-      let t : c .thickness ≡ min (min sliceLimit (p .tip - at)) (bottom - at) = thick in
+  left : drop used (cutOf rs p) ≡ here ∷ slicesOf p (piecesFrom (soilAt rs) (at + here .thickness) (p .tip - (at + here .thickness)))
+  left = g .rest ∙ next-is rs p at bottom s here z d h w refl
+
+  pub doing-more : (b′ : List ℕ) (r : Cut) → used < placeLimit → b′ ≡ putAt bytes used here → Done here r → Doing rs p (used + 1) (at + r .thickness) b′ (sum + r .weight)
+  doing-more b′ r f q y =
+      let more : take (used + 1) (cutOf rs p) ≡ take used (cutOf rs p) ++ (here ∷ []) = head-take (cutOf rs p) used here _ left in
+      let t : r .thickness ≡ min (min sliceLimit (p .tip - at)) (bottom - at) = thick p s at bottom r y in
       record {
         low = omega (arith, g .low);
         high = omega (arith, t);
         few = omega arith;
-        table = rw more (filled-more (take used (cutOf rs p)) bytes b′ used c f q (g .table));
-        sums = ap₂ (λ (i j : ℕ). i + j) (g .sums) (y .is) ∙ sym (ap total more ∙ total-more (take used (cutOf rs p)) c);
-        small = omega (arith, g .small, g .low, y .small);
-        rest = head-drop (cutOf rs p) used c _ left;
+        table = rw more (filled-more (take used (cutOf rs p)) bytes b′ used here f q (g .table));
+        sums = ap₂ (λ (i j : ℕ). i + j) (g .sums) (y .weight .is) ∙ sym (ap total more ∙ total-more (take used (cutOf rs p)) here);
+        small = omega (arith, g .small, g .low, y .weight .small, y .thick);
+        rest = head-drop (cutOf rs p) used here _ left ∙ ap (λ (k : ℕ). slicesOf p (piecesFrom (soilAt rs) (at + k) (p .tip - (at + k)))) (sym (y .thick));
       }
 
-  pub doing-over : used ≡ placeLimit → noShaft ≡ shaftOf (cutOf rs p)
+  many : used ≡ placeLimit → placeLimit < length (cutOf rs p)
+  many f = omega (arith, head-in (cutOf rs p) used here _ left)
+
+  pub over-shaft : used ≡ placeLimit → noShaft ≡ shaftOf (cutOf rs p)
   unfolding shaftOf
-  doing-over f = rw (lt-ltb placeLimit (length (cutOf rs p)) (omega (arith, head-in (cutOf rs p) used c _ left)))
+  over-shaft f = rw (lt-ltb placeLimit (length (cutOf rs p)) (many f))
 
-pub doing-all : (rs : List Row) (p : Pile) (used at : ℕ) (bytes : List ℕ) (sum : ℕ) → p .tip ≤ at → Doing rs p used at bytes sum
-    → record { bytes = bytes; used = used; total = sum } ≡ shaftOf (cutOf rs p)
-unfolding shaftOf tableBytes piecesFrom slicesOf
-doing-all rs p used at bytes sum h g =
-    let all : List Slice = cutOf rs p in
-    let y : p .tip - at ≡ 0 = omega arith in
-    let o : drop used all ≡ [] = g .rest ∙ ap (λ (x : ℕ). slicesOf p (piecesFrom (soilAt rs) at x)) y in
-    let l : length all ≤ used = omega (arith, length-drop used all, ap length o) in
-    let t : take used all ≡ all = take-all used all l in
-    let n : used ≡ length all = sym (g .table .0) ∙ ap length t in
-    let b : bytes ≡ slicesBytes all ++ replicate (tableSize - length all * sliceSize) 0
-    = g .table .1 ∙ ap₂ (λ (x : List Slice) (k : ℕ). slicesBytes x ++ replicate (tableSize - k * sliceSize) 0) t n in
-    let v : sum ≡ total all = g .sums ∙ ap total t in
-    rw (le-ltb placeLimit (length all) (omega (arith, g .few))) (λ i. record { bytes = b i; used = n i; total = v i })
+  pub over-table : used ≡ placeLimit → replicate tableSize 0 ≡ tableOf (cutOf rs p)
+  unfolding tableOf
+  over-table f = rw (lt-ltb placeLimit (length (cutOf rs p)) (many f))
 
-pub over-small : (r : Shaft) → r ≡ noShaft → r .total ≤ 6400000000000
-over-small r e = let k : r .total ≡ 0 = ap (λ (x : Shaft). x .total) e in omega arith
+-- the shaft is cut down to the tip
+module _ (rs : List Row) (p : Pile) (used at : ℕ) (bytes : List ℕ) (sum : ℕ) (h : p .tip ≤ at) (g : Doing rs p used at bytes sum) where
+  all-taken : take used (cutOf rs p) ≡ cutOf rs p
+  unfolding piecesFrom slicesOf
+  all-taken =
+      let y : p .tip - at ≡ 0 = omega arith in
+      let o : drop used (cutOf rs p) ≡ [] = g .rest ∙ ap (λ (x : ℕ). slicesOf p (piecesFrom (soilAt rs) at x)) y in
+      let l : length (cutOf rs p) ≤ used = omega (arith, length-drop used (cutOf rs p), ap length o) in
+      take-all used (cutOf rs p) l
+
+  all-used : used ≡ length (cutOf rs p)
+  all-used = sym (g .table .0) ∙ ap length all-taken
+
+  pub all-shaft : record { used = used; total = sum } ≡ shaftOf (cutOf rs p)
+  unfolding shaftOf
+  all-shaft =
+      let v : sum ≡ total (cutOf rs p) = g .sums ∙ ap total all-taken in
+      rw (le-ltb placeLimit (length (cutOf rs p)) (omega (arith, g .few, all-used))) (λ i. record { used = all-used i; total = v i })
+
+  pub all-table : bytes ≡ tableOf (cutOf rs p)
+  unfolding tableOf tableBytes
+  all-table =
+      rw (le-ltb placeLimit (length (cutOf rs p)) (omega (arith, g .few, all-used)))
+      (g .table .1 ∙ ap₂ (λ (x : List Slice) (k : ℕ). slicesBytes x ++ replicate (tableSize - k * sliceSize) 0) all-taken all-used)
 
 -- a slice takes something of what is left
 pub shorter : (tip at t bottom rows : ℕ) → t ≡ min (min sliceLimit (tip - at)) (bottom - at) → at < tip → at < bottom → tip - (at + t) + rows < tip - at + rows

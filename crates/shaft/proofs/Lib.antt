@@ -1,6 +1,3 @@
--- Laws of the walk along a log's rows.
-pub mod LogLaws
-pub mod WalkLaws
-pub mod TableLaws
+-- Laws of the shaft's slices.
 pub mod StratumLaws
 pub mod CutLaws

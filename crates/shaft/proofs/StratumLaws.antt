@@ -9,26 +9,17 @@ use lib.Dec.{leb}
 use lib.ListN.{take, drop}
 use borrow.Author.Tests.{lt-leb, leb-false}
 use Rattle.rules.specs.declared.Row.{Row}
-use Rattle.rules.specs.declared.Log.{Log}
 use Rattle.rules.specs.declared.Soil.{Soil}
 use Rattle.rules.specs.Base.{either}
+use Rattle.rules.specs.Packed.{countOf, rowsOf}
 use Rattle.rules.specs.Checks.{depthOf}
 use Rattle.rules.specs.Ground.{same, soilOf, soilAt}
 use Rattle.rules.specs.ByRows.{lead, extent}
 use Rattle.rules.proofs.Basics.{split, same-eq}
 use Rattle.rules.proofs.RefusalLaws.{either-left, either-right}
 use Rattle.rules.proofs.GroundLaws.{soil-here}
-use Rattle.rules.proofs.RowLaws.{extent-here}
-use Rattle.shaft.specs.Log.{usedRows}
-use Rattle.shaft.proofs.LogLaws.{soil-left, extent-left, sum-more, sum-all, none-left}
-
-lead-on : (s : Soil) (r : Row) (rs : List Row) → same s (soilOf r) ≡ true → lead s (r ∷ rs) ≡ r .thickness + lead s rs
-unfolding lead
-lead-on s r rs e = rw e
-
-lead-off : (s : Soil) (r : Row) (rs : List Row) → same s (soilOf r) ≡ false → lead s (r ∷ rs) ≡ 0
-unfolding lead
-lead-off s r rs e = rw e
+use Rattle.rules.proofs.RowLaws.{lead-on, lead-off, extent-here}
+use Rattle.strata.proofs.LogLaws.{soil-left, extent-left, sum-more, sum-all, none-left}
 
 lead-end : (s : Soil) → lead s [] ≡ 0
 unfolding lead
@@ -91,9 +82,9 @@ whole-before rs qs r next at bottom s e j o =
     let k = o .held at (omega arith) h in
     record { here = h; soil = k .0; far = omega (arith, k .1) }
 
-pub whole-last : (l : Log) (next at bottom : ℕ) (s : Soil) → l .count ≤ next → at < depthOf (usedRows l) → Open (usedRows l) next at bottom s → Whole (usedRows l) at bottom s
-whole-last l next at bottom s n d o =
-    let h : at < bottom = omega (arith, sum-all l next bottom n (o .sum)) in
-    let z : lead s (drop next (usedRows l)) ≡ 0 = ap (lead s) (none-left l next n) ∙ lead-end s in
+pub whole-last : (log : List ℕ) (next at bottom : ℕ) (s : Soil) → countOf log ≤ next → at < depthOf (rowsOf log) → Open (rowsOf log) next at bottom s → Whole (rowsOf log) at bottom s
+whole-last log next at bottom s n d o =
+    let h : at < bottom = omega (arith, sum-all log next bottom n (o .sum)) in
+    let z : lead s (drop next (rowsOf log)) ≡ 0 = ap (lead s) (none-left log next n) ∙ lead-end s in
     let k = o .held at (omega arith) h in
     record { here = h; soil = k .0; far = omega (arith, k .1) }

@@ -1,3 +1,2 @@
--- What the walk along a log's rows is given, and what it finds.
-pub mod Log
-pub mod Cut
+-- The shaft cut into slices.
+pub mod Shafts

@@ -6,16 +6,16 @@ use Rattle.psamathyr.proofs.psamathyr_pack_log.Statement.{statement}
 use Rattle.psamathyr.proofs.psamathyr_pack_log.Tie as tie
 use Rattle.psamathyr.proofs.psamathyr_pack_log.Reads as reads
 use Rattle.psamathyr.proofs.psamathyr_pack_log.Lts as lts
-use Rattle.psamathyr.proofs.packed.Reads as packed-reads
-use Rattle.records.proofs.pack_log.Reads as pack-log-reads
+use Rattle.replies.proofs.refused.Reads as refused-reads
+use Rattle.packing.proofs.pack_log.Reads as pack-log-reads
 
 -- src/lib.rt:30:12
 pack-log-requires : tie.Need-pack-log-requires
 pack-log-requires c κs = search needs
 
 -- src/lib.rt:30:5
-packed-requires : tie.Need-packed-requires
-packed-requires c κs = search needs
+refused-requires : tie.Need-refused-requires
+refused-requires c κs = search needs
 
 -- src/lib.rt:24:1
 same-length : tie.Need-same-length
@@ -23,8 +23,8 @@ same-length c = search needs
 
 -- src/lib.rt:24:1
 returns : tie.Need-returns
-returns c = (c .packed .ensures ∙ ap refused (c .before .before .before .pack-log .ensures .0), c .before .before .before .pack-log .ensures .1)
+returns c = (c .refused .ensures ∙ ap refused (c .before .before .before .pack-log .ensures .0), c .before .before .before .pack-log .ensures .1)
 
 pub psamathyr-pack-log-spec : {M : Type 1} → statement M
 psamathyr-pack-log-spec =
-    tie.close (tie.spec pack-log-requires packed-requires same-length returns)
+    tie.close (tie.spec pack-log-requires refused-requires same-length returns)

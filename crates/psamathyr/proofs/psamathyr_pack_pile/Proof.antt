@@ -6,16 +6,16 @@ use Rattle.psamathyr.proofs.psamathyr_pack_pile.Statement.{statement}
 use Rattle.psamathyr.proofs.psamathyr_pack_pile.Tie as tie
 use Rattle.psamathyr.proofs.psamathyr_pack_pile.Reads as reads
 use Rattle.psamathyr.proofs.psamathyr_pack_pile.Lts as lts
-use Rattle.psamathyr.proofs.packed.Reads as packed-reads
-use Rattle.records.proofs.pack_pile.Reads as pack-pile-reads
+use Rattle.replies.proofs.refused.Reads as refused-reads
+use Rattle.piles.proofs.pack_pile.Reads as pack-pile-reads
 
 -- src/lib.rt:47:12
 pack-pile-requires : tie.Need-pack-pile-requires
 pack-pile-requires c κs = search needs
 
 -- src/lib.rt:47:5
-packed-requires : tie.Need-packed-requires
-packed-requires c κs = search needs
+refused-requires : tie.Need-refused-requires
+refused-requires c κs = search needs
 
 -- src/lib.rt:41:1
 same-length : tie.Need-same-length
@@ -23,8 +23,8 @@ same-length c = search needs
 
 -- src/lib.rt:41:1
 returns : tie.Need-returns
-returns c = (c .packed .ensures ∙ ap refused (c .before .before .before .pack-pile .ensures .0), c .before .before .before .pack-pile .ensures .1)
+returns c = (c .refused .ensures ∙ ap refused (c .before .before .before .pack-pile .ensures .0), c .before .before .before .pack-pile .ensures .1)
 
 pub psamathyr-pack-pile-spec : {M : Type 1} → statement M
 psamathyr-pack-pile-spec =
-    tie.close (tie.spec pack-pile-requires packed-requires same-length returns)
+    tie.close (tie.spec pack-pile-requires refused-requires same-length returns)

@@ -1,0 +1,40 @@
+-- `bits::put_bits` meets its contract.
+use mathlib.Core.Path.{refl, _∙_}
+use Rattle.bits.proofs.WriteLaws.{put-wrapped}
+use borrow.Author.Needs.{needs}
+use Rattle.bits.proofs.put_bits.Statement.{statement}
+use Rattle.bits.proofs.put_bits.Tie as tie
+
+add-at : tie.Need-add-at
+add-at c = search needs
+
+word-of-requires : tie.Need-word-of-requires
+word-of-requires c κs = search needs
+
+sub-wrapping-add-u64 : tie.Need-sub-wrapping-add-u64
+sub-wrapping-add-u64 c = search needs
+
+shl-wrapping-add-u64 : tie.Need-shl-wrapping-add-u64
+shl-wrapping-add-u64 c = search needs
+
+wrapping-add-u64-requires : tie.Need-wrapping-add-u64-requires
+wrapping-add-u64-requires c κs = search needs
+
+bytes-of-requires : tie.Need-bytes-of-requires
+bytes-of-requires c κs = search needs
+
+returns : tie.Need-returns
+returns c =
+    (c .bytes-of .ensures ∙ put-wrapped _ _ _ _ (c .before .before .word-of .ensures) (c .before .wrapping-add-u64 .ensures), refl)
+
+pub put-bits-spec : {M : Type 1} → statement M
+put-bits-spec =
+    tie.close
+    (tie.spec
+    add-at
+    word-of-requires
+    sub-wrapping-add-u64
+    shl-wrapping-add-u64
+    wrapping-add-u64-requires
+    bytes-of-requires
+    returns)

@@ -1,2 +1,0 @@
--- What a calculation is made of.
-pub mod Work

@@ -1,0 +1,3 @@
+-- Laws of one slice and of the table.
+pub mod SliceLaws
+pub mod TableLaws

@@ -1,0 +1,2 @@
+-- One slice of the shaft.
+pub mod Cuts

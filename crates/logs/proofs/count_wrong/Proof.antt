@@ -1,0 +1,13 @@
+-- `logs::count_wrong` meets its contract.
+use borrow.Author.Tests.{eq-eqb, ne-eqb}
+use Rattle.logs.proofs.count_wrong.Statement.{statement}
+use Rattle.logs.proofs.count_wrong.Tie as tie
+
+returns : tie.Need-returns
+returns c = rw (eq-eqb _ _ (c .if1 .taken))
+
+returns-2 : tie.Need-returns-2
+returns-2 c = rw (ne-eqb _ _ (c .if1 .left))
+
+pub count-wrong-spec : {M : Type 1} → statement M
+count-wrong-spec = tie.close (tie.spec returns returns-2)

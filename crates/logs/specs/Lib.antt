@@ -1,0 +1,3 @@
+-- What reading and checking a log need beside document 01's definitions.
+pub mod Checks
+pub mod Rows

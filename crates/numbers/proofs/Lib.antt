@@ -1,0 +1,2 @@
+-- Laws of a pile's sides.
+pub mod SideLaws

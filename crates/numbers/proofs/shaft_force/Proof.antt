@@ -1,0 +1,63 @@
+-- `numbers::shaft_force` meets its contract.
+use native.Mathlib.Nat.{mul-le-mul, add-le-add}
+use native.Mathlib.Omega.{arith}
+use borrow.Author.Tests.{eq-eqb, ne-eqb}
+use Rattle.rules.specs.Numbers.{shaftForce}
+use borrow.Author.Needs.{needs}
+use Rattle.numbers.proofs.shaft_force.Statement.{statement}
+use Rattle.numbers.proofs.shaft_force.Tie as tie
+
+cast-a : tie.Need-cast-a
+cast-a c = search needs
+
+mul-result : tie.Need-mul-result
+mul-result c =
+    let a = c .before .before .before in
+    omega (arith, mul-le-mul (a .pre .1) (a .pre .0 .round (c .if1 .taken)))
+
+mul-result-2 : tie.Need-mul-result-2
+mul-result-2 c =
+    let a = c .before .before .before in
+    omega (arith, mul-le-mul (a .pre .1) (a .pre .0 .round (c .if1 .taken)))
+
+returns : tie.Need-returns
+unfolding shaftForce
+returns c =
+    let a = c .before .before .before in
+    (rw (eq-eqb _ _ (c .if1 .taken)), omega (arith, mul-le-mul (a .pre .1) (a .pre .0 .round (c .if1 .taken))))
+
+cast-b : tie.Need-cast-b
+cast-b c = search needs
+
+add-result : tie.Need-add-result
+add-result c = search needs
+
+mul-result-3 : tie.Need-mul-result-3
+mul-result-3 c =
+    let a = c .before .before .before .before in
+    omega (arith, mul-le-mul (a .pre .1) (add-le-add (a .pre .0 .a) (a .pre .0 .b)))
+
+mul-result-4 : tie.Need-mul-result-4
+mul-result-4 c =
+    let a = c .before .before .before .before in
+    omega (arith, mul-le-mul (a .pre .1) (add-le-add (a .pre .0 .a) (a .pre .0 .b)))
+
+returns-2 : tie.Need-returns-2
+unfolding shaftForce
+returns-2 c =
+    let a = c .before .before .before .before in
+    (rw (ne-eqb _ _ (c .before .if1 .left)), omega (arith, mul-le-mul (a .pre .1) (add-le-add (a .pre .0 .a) (a .pre .0 .b))))
+
+pub shaft-force-spec : {M : Type 1} → statement M
+shaft-force-spec =
+    tie.close
+    (tie.spec
+    cast-a
+    mul-result
+    mul-result-2
+    returns
+    cast-b
+    add-result
+    mul-result-3
+    mul-result-4
+    returns-2)

@@ -1,0 +1,2 @@
+-- What the numbers ask of a pile.
+pub mod Sides

@@ -1,0 +1,2 @@
+-- Laws of checks 7 to 12.
+pub mod SeatLaws

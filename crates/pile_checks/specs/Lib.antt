@@ -1,0 +1,2 @@
+-- Checks 7 to 12.
+pub mod Depths

@@ -1,0 +1,2 @@
+-- What packing a pile record needs beside document 01's definitions.
+pub mod Fits

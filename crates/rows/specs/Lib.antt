@@ -1,0 +1,2 @@
+-- What packing a row needs beside document 01's definitions.
+pub mod Fits

@@ -1,0 +1,134 @@
+// A row of a log: its five fields, their ranges, and its five bytes.
+use bits::Cursor;
+use bits::put_bits;
+use bits::take_bits;
+use replies::in_range;
+use rules::Row;
+ghost use mathlib.Core.Path.{_≡_};
+ghost use Prim.Native.Nat.{_+_, _*_, _^_, _<_};
+ghost use Rattle.rules.specs.Packed.{rowAt, noRow, rowBytes};
+ghost use Rattle.rules.specs.Checks.{indexRight, wrongField};
+ghost use Rattle.rules.specs.Reading.{rowZero};
+
+const DEPTH_LIMIT: u16 = 60000;
+
+// A row, and the cursor behind it.
+pub struct RowTaken {
+    pub row: Row,
+    pub next: Cursor,
+}
+
+// The row at the cursor.
+pub fn take_row(s: &[u8], c: Cursor) -> RowTaken
+    requires { ⌜ c .at < 2 ^ 31 ⌝ }
+    ensures { λ r. ⌜ (r .row ≡ rowAt (now (s .entry)) (c .at)) × (r .next .at ≡ c .at + 40) ⌝ }
+{
+    let thickness = take_bits(s, c, 16);
+    let kind = take_bits(s, thickness.next, 3);
+    let index = take_bits(s, kind.next, 8);
+    let saturation = take_bits(s, index.next, 7);
+    let zero = take_bits(s, saturation.next, 6);
+    let row = Row {
+        thickness: thickness.value as u16,
+        kind: kind.value as u8,
+        index: index.value as u8,
+        saturation: saturation.value as u8,
+        zero: zero.value as u8,
+    };
+    let next = zero.next;
+    RowTaken {
+        row: row,
+        next: next,
+    }
+}
+
+pub fn no_row() -> Row
+    ensures { λ r. ⌜ r ≡ noRow ⌝ }
+{
+    Row {
+        thickness: 0,
+        kind: 0,
+        index: 0,
+        saturation: 0,
+        zero: 0,
+    }
+}
+
+// The row that begins at byte i; what lies past the end reads as 0.
+pub fn read_row(s: &[u8], i: usize) -> Row
+    ensures { λ r. ⌜ r ≡ rowAt (now (s .entry)) (i * 8) ⌝ }
+{
+    if i >= s.len() {
+        return no_row();
+    }
+    let taken = take_row(&s[i..], Cursor { at: 0 });
+    taken.row
+}
+
+fn index_right(kind: u8, index: u8) -> bool
+    ensures { λ r. ⌜ r ≡ indexRight kind index ⌝ }
+{
+    if kind <= 3 {
+        index == 100
+    } else {
+        index <= 200
+    }
+}
+
+// Whether every field is 0, as in an unused place.
+pub fn row_zero(r: Row) -> bool
+    ensures { λ z. ⌜ z ≡ rowZero r ⌝ }
+{
+    if r.thickness != 0 {
+        return false;
+    }
+    if r.kind != 0 {
+        return false;
+    }
+    if r.index != 0 {
+        return false;
+    }
+    if r.saturation != 0 {
+        return false;
+    }
+    r.zero == 0
+}
+
+// The lowest field out of range, 0 where there is none.
+pub fn row_field(r: Row) -> u32
+    ensures { λ f. ⌜ f ≡ wrongField r ⌝ }
+{
+    if !in_range(1, DEPTH_LIMIT, r.thickness) {
+        return 1;
+    }
+    if !in_range(1, 6, r.kind as u16) {
+        return 2;
+    }
+    if !index_right(r.kind, r.index) {
+        return 3;
+    }
+    if 100 < r.saturation {
+        return 4;
+    }
+    if r.zero != 0 {
+        return 5;
+    }
+    0
+}
+
+// The five bytes of a row; a field of more bits than its place is carried into the field before.
+pub fn row_bytes(r: Row) -> [u8; 5]
+    ensures { λ b. ⌜ b ≡ rowBytes r ⌝ }
+{
+    let thickness = put_bits([0; 8], Cursor { at: 0 }, r.thickness as u64, 16);
+    let a = thickness.bytes;
+    let kind = put_bits(a, thickness.next, r.kind as u64, 3);
+    let a = kind.bytes;
+    let index = put_bits(a, kind.next, r.index as u64, 8);
+    let a = index.bytes;
+    let saturation = put_bits(a, index.next, r.saturation as u64, 7);
+    let a = saturation.bytes;
+    let zero = put_bits(a, saturation.next, r.zero as u64, 6);
+    let a = zero.bytes;
+    [a[0], a[1], a[2], a[3], a[4]]
+}

@@ -1,0 +1,4 @@
+-- Laws of a place of a slice table, and its round trips.
+pub mod RoundTrip
+pub mod SliceLaws
+pub mod SliceTrip

@@ -1,0 +1,3 @@
+-- Laws of what is worked out.
+pub mod WorkLaws
+pub mod SliceLaws

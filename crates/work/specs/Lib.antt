@@ -1,0 +1,2 @@
+-- What is worked out of rows and a pile.
+pub mod Work
