@@ -8,8 +8,8 @@ use lib.Seq.{set-split}
 use Rattle.rules.specs.Packed.{countOf}
 use Rattle.rules.specs.Edits.{moved, withCount, upTo, fromRow, replacedLog, insertedLog, removedLog}
 use Rattle.edited.specs.Divided.{dividedLog}
-use Rattle.places.specs.Places.{closed, put, inserted, divided}
-use Rattle.places.proofs.PlaceLaws.{tail-back}
+use Rattle.row_places.specs.Places.{closed, put, inserted, divided}
+use Rattle.row_places.proofs.PlaceLaws.{tail-back}
 
 pub counted : (l : List ℕ) (n : ℕ) → 1 ≤ length l → set l 0 n ≡ withCount n l
 counted l n h = set-split l 0 n h

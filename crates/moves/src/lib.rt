@@ -32,7 +32,7 @@ pub fn replace_row(log: &mut [u8], k: usize, row: [u8; 5])
     ensures { λ _. ⌜ now (log .exit) ≡ replacedLog k row (now (log .entry)) ⌝ }
 {
     let place = 1 + (k - 1) * ROW_SIZE;
-    places::put_row(&mut log[place..], row);
+    row_places::put_row(&mut log[place..], row);
 }
 
 pub fn insert_row(log: &mut [u8], k: usize, row: [u8; 5])
@@ -43,7 +43,7 @@ pub fn insert_row(log: &mut [u8], k: usize, row: [u8; 5])
 {
     raise_count(log);
     let at = 1 + (k - 1) * ROW_SIZE;
-    places::insert_first(&mut log[at..], row);
+    row_places::insert_first(&mut log[at..], row);
 }
 
 pub fn remove_row(log: &mut [u8], k: usize)
@@ -54,7 +54,7 @@ pub fn remove_row(log: &mut [u8], k: usize)
 {
     lower_count(log);
     let at = 1 + (k - 1) * ROW_SIZE;
-    places::close_place(&mut log[at..]);
+    row_places::close_place(&mut log[at..]);
 }
 
 // Row k gives way to its two parts.
@@ -66,5 +66,5 @@ pub fn split_row(log: &mut [u8], k: usize, upper: [u8; 5], lower: [u8; 5])
 {
     raise_count(log);
     let at = 1 + (k - 1) * ROW_SIZE;
-    places::split_first(&mut log[at..], upper, lower);
+    row_places::split_first(&mut log[at..], upper, lower);
 }

@@ -3,7 +3,7 @@ use mathlib.Core.Path.{_≡_, refl}
 use Prim.Native.Nat.{_≤_, _-_}
 use native.Mathlib.Omega.{arith}
 use lib.ListN.{length, length-set}
-use Rattle.places.proofs.PlaceLaws.{fromOn, stored-turn, stored-ends}
+use Rattle.row_places.proofs.PlaceLaws.{fromOn, stored-turn, stored-ends}
 use borrow.Author.Needs.{needs}
 use Rattle.kept.proofs.table_copy.Statement.{statement}
 use Rattle.kept.proofs.table_copy.Tie as tie

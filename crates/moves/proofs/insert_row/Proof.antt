@@ -5,7 +5,7 @@ use Prim.Native.Nat.{ℕ, _+_}
 use native.Mathlib.Omega.{arith}
 use Rattle.rules.specs.Packed.{countOf}
 use Rattle.rules.specs.Edits.{placeByte}
-use Rattle.places.specs.Places.{inserted}
+use Rattle.row_places.specs.Places.{inserted}
 use Rattle.moves.proofs.LogLaws.{counted-back, inserted-back}
 use borrow.Author.Needs.{needs}
 use Rattle.moves.proofs.insert_row.Statement.{statement}

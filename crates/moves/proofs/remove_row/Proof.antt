@@ -4,7 +4,7 @@ use Prim.Native.Nat.{_-_}
 use native.Mathlib.Omega.{arith}
 use Rattle.rules.specs.Packed.{countOf}
 use Rattle.rules.specs.Edits.{placeByte}
-use Rattle.places.specs.Places.{closed}
+use Rattle.row_places.specs.Places.{closed}
 use Rattle.moves.proofs.LogLaws.{counted-back, removed-back}
 use borrow.Author.Needs.{needs}
 use Rattle.moves.proofs.remove_row.Statement.{statement}

@@ -2,9 +2,9 @@
 use mathlib.Core.Path.{_∙_}
 use mathlib.Core.List.{List}
 use Prim.Native.Nat.{ℕ, _+_, _*_, _-_}
-use Rattle.places.specs.Places.{put}
+use Rattle.row_places.specs.Places.{put}
 use Rattle.moves.proofs.LogLaws.{replaced-back}
-use Rattle.places.proofs.PlaceLaws.{tail-back}
+use Rattle.row_places.proofs.PlaceLaws.{tail-back}
 use borrow.Author.Needs.{needs}
 use Rattle.moves.proofs.replace_row.Statement.{statement}
 use Rattle.moves.proofs.replace_row.Tie as tie

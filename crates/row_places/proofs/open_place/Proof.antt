@@ -3,11 +3,11 @@ use mathlib.Core.Path.{_≡_, refl}
 use Prim.Native.Nat.{_≤_}
 use native.Mathlib.Omega.{arith}
 use lib.ListN.{length, length-set}
-use Rattle.places.specs.Places.{opened}
-use Rattle.places.proofs.PlaceLaws.{fromOn, opening-begins, opening-turn, opening-ends}
+use Rattle.row_places.specs.Places.{opened}
+use Rattle.row_places.proofs.PlaceLaws.{fromOn, opening-begins, opening-turn, opening-ends}
 use borrow.Author.Needs.{needs}
-use Rattle.places.proofs.open_place.Statement.{statement}
-use Rattle.places.proofs.open_place.Tie as tie
+use Rattle.row_places.proofs.open_place.Statement.{statement}
+use Rattle.row_places.proofs.open_place.Tie as tie
 
 abbrev Inv-loop : tie.InvT-loop
 Inv-loop t₀ i₀ t i = (5 ≤ i) × (i ≤ length t₀) × (t ≡ fromOn t₀ (opened t₀) i) × (length t ≡ length t₀)

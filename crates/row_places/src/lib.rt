@@ -4,7 +4,7 @@ ghost use mathlib.Core.Path.{_≡_};
 ghost use Prim.Native.Nat.{_*_, _≤_};
 ghost use lib.ListN.{length};
 ghost use Rattle.rules.specs.Limits.{rowSize};
-ghost use Rattle.places.specs.Places.{opened, closed, put, inserted, divided};
+ghost use Rattle.row_places.specs.Places.{opened, closed, put, inserted, divided};
 
 const ROW_SIZE: usize = 5;
 

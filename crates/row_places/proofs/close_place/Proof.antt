@@ -4,11 +4,11 @@ use mathlib.Core.Logic.{⊎-elim}
 use Prim.Native.Nat.{_-_}
 use native.Mathlib.Omega.{arith}
 use lib.ListN.{length, length-set}
-use Rattle.places.specs.Places.{closed}
-use Rattle.places.proofs.PlaceLaws.{fromOn, length-closed, stored-turn, stored-ends, closing-ahead, closing-beyond}
+use Rattle.row_places.specs.Places.{closed}
+use Rattle.row_places.proofs.PlaceLaws.{fromOn, length-closed, stored-turn, stored-ends, closing-ahead, closing-beyond}
 use borrow.Author.Needs.{needs}
-use Rattle.places.proofs.close_place.Statement.{statement}
-use Rattle.places.proofs.close_place.Tie as tie
+use Rattle.row_places.proofs.close_place.Statement.{statement}
+use Rattle.row_places.proofs.close_place.Tie as tie
 
 abbrev Inv-loop : tie.InvT-loop
 Inv-loop t₀ i₀ t i = (t ≡ fromOn (closed t₀) t₀ i) × (length t ≡ length t₀)

@@ -3,10 +3,10 @@ use mathlib.Core.Path.{_≡_, refl}
 use Prim.Native.Nat.{_≤_, _-_}
 use native.Mathlib.Omega.{arith}
 use lib.ListN.{length, length-set}
-use Rattle.places.proofs.PlaceLaws.{fromOn, stored-turn, put-ends}
+use Rattle.row_places.proofs.PlaceLaws.{fromOn, stored-turn, put-ends}
 use borrow.Author.Needs.{needs}
-use Rattle.places.proofs.put_row.Statement.{statement}
-use Rattle.places.proofs.put_row.Tie as tie
+use Rattle.row_places.proofs.put_row.Statement.{statement}
+use Rattle.row_places.proofs.put_row.Tie as tie
 
 abbrev Inv-loop : tie.InvT-loop
 Inv-loop t₀ row i₀ t i = (i ≤ 5) × (t ≡ fromOn row t₀ i) × (length t ≡ length t₀)

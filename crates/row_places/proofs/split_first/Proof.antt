@@ -4,11 +4,11 @@ use mathlib.Core.List.{List, _++_}
 use Prim.Native.Nat.{ℕ}
 use lib.ListN.{take, drop}
 use native.Mathlib.Omega.{arith}
-use Rattle.places.specs.Places.{put}
-use Rattle.places.proofs.PlaceLaws.{tail-back, divided-is}
+use Rattle.row_places.specs.Places.{put}
+use Rattle.row_places.proofs.PlaceLaws.{tail-back, divided-is}
 use borrow.Author.Needs.{needs}
-use Rattle.places.proofs.split_first.Statement.{statement}
-use Rattle.places.proofs.split_first.Tie as tie
+use Rattle.row_places.proofs.split_first.Statement.{statement}
+use Rattle.row_places.proofs.split_first.Tie as tie
 
 insert-first-requires : tie.Need-insert-first-requires
 insert-first-requires c κs = search needs

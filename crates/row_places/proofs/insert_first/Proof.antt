@@ -3,11 +3,11 @@ use mathlib.Core.Path.{_∙_, ap}
 use mathlib.Core.List.{List}
 use Prim.Native.Nat.{ℕ}
 use native.Mathlib.Omega.{arith}
-use Rattle.places.specs.Places.{put}
-use Rattle.places.proofs.PlaceLaws.{inserted-is}
+use Rattle.row_places.specs.Places.{put}
+use Rattle.row_places.proofs.PlaceLaws.{inserted-is}
 use borrow.Author.Needs.{needs}
-use Rattle.places.proofs.insert_first.Statement.{statement}
-use Rattle.places.proofs.insert_first.Tie as tie
+use Rattle.row_places.proofs.insert_first.Statement.{statement}
+use Rattle.row_places.proofs.insert_first.Tie as tie
 
 open-place-requires : tie.Need-open-place-requires
 open-place-requires c κs = search needs

@@ -9,7 +9,7 @@ use lib.ListN.{getD, take, drop, set, replicate, length, length-append, length-d
 use lib.Seq.{take-add, take-at, drop-at, getD-append-add, getD-drop, getD-take, length-take-le, take-all, take-suc, drop-cons, set-at, append-snoc, drop-append-le, paste-suc}
 use Rattle.rules.specs.Limits.{rowSize}
 use Rattle.rules.specs.Edits.{moved}
-use Rattle.places.specs.Places.{opened, closed, put, inserted, divided}
+use Rattle.row_places.specs.Places.{opened, closed, put, inserted, divided}
 
 pub length-opened : (t : List ℕ) → rowSize ≤ length t → length (opened t) ≡ length t
 unfolding opened
