@@ -23,7 +23,8 @@ use Rattle.rules.specs.Answers.{checksFrom, slicesFrom, slices}
 use Rattle.rules.specs.Calculation.{slicesOfRows}
 use Rattle.rules.proofs.Basics.{split}
 use Rattle.rules.proofs.FitLaws.{Fit, all-fit}
-use Rattle.tables.proofs.Rules.{friction-most, factor-between}
+use Rattle.friction.proofs.Reading.{friction-most}
+use Rattle.factors.proofs.Laws.{factor-between}
 use Rattle.work.proofs.SliceLaws.{few-slices}
 use Rattle.page.specs.Places.{AllFit, TableOf}
 use Rattle.page.proofs.PlaceLaws.{place-back}

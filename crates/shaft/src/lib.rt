@@ -2,21 +2,18 @@
 use cuts::PLACES;
 use cuts::clear_table;
 use cuts::cut_slice;
-use strata::same_soil;
+use strata::joins;
 use strata::soil_of;
 ghost use mathlib.Core.Path.{_≡_};
 ghost use Prim.Native.Nat.{_<_, _≤_};
-ghost use lib.Dec.{leb};
 ghost use lib.ListN.{length};
-ghost use Rattle.rules.specs.Base.{either};
 ghost use Rattle.rules.specs.Checks.{depthOf};
-ghost use Rattle.rules.specs.Ground.{same, soilOf};
 ghost use Rattle.rules.specs.Limits.{tableSize};
 ghost use Rattle.rules.specs.Packed.{rowsOf};
+ghost use Rattle.friction_table.specs.Printed.{Lent};
 ghost use Rattle.strata.specs.Good.{Good};
 ghost use Rattle.shaft.specs.Shafts.{cutOf, shaftOf, tableOf};
 use rules::Pile;
-use rules::Row;
 use rules::Soil;
 
 const ROW_SIZE: usize = 5;
@@ -29,20 +26,15 @@ pub struct Shaft {
     pub total: u64,
 }
 
-// Whether row r goes to the open stratum, of this soil down to bottom: it has the same soil, or the stratum lies above depth at.
-fn joins(soil: Soil, bottom: u64, at: u64, r: Row) -> bool
-    ensures { λ t. ⌜ t ≡ either (leb bottom at) (same soil (soilOf r)) ⌝ }
-{
-    if bottom <= at {
-        return true;
-    }
-    same_soil(soil, soil_of(r))
-}
-
-// The part of each stratum between head and tip, cut from its top. Where the shaft needs more slices than a table has
-// places, one more than those is replied, and the table is left clear.
-pub fn cut_shaft(log: &[u8], pile: Pile, table: &mut [u8]) -> Shaft
-    requires { ⌜ Good (now log) × (pile .head < pile .tip) × (pile .tip ≤ 40000) × (pile .tip ≤ depthOf (rowsOf (now log))) × (length (now table) ≡ tableSize) ⌝ }
+// The cut along the rows of the log, with table 7.3 and its index lent.
+fn cut_along(
+    kpa: &[[u8; 10]; 13],
+    metres: &[[u8; 2]; 36],
+    log: &[u8],
+    pile: Pile,
+    table: &mut [u8],
+) -> Shaft
+    requires { ⌜ Lent (now kpa) (now metres) × Good (now log) × (pile .head < pile .tip) × (pile .tip ≤ 40000) × (pile .tip ≤ depthOf (rowsOf (now log))) × (length (now table) ≡ tableSize) ⌝ }
     ensures { λ r. ⌜ (r ≡ shaftOf (cutOf (rowsOf (now (log .entry))) pile)) × (r .total ≤ 6400000000000) ⌝ }
     ensures { λ _. ⌜ now (table .exit) ≡ tableOf (cutOf (rowsOf (now (log .entry))) pile) ⌝ }
 {
@@ -78,10 +70,22 @@ pub fn cut_shaft(log: &[u8], pile: Pile, table: &mut [u8]) -> Shaft
                 total: 0,
             };
         }
-        let cut = cut_slice(table, used, pile, soil, at, bottom);
+        let cut = cut_slice(kpa, metres, table, used, pile, soil, at, bottom);
         total += cut.weight;
         used += 1;
         at += cut.thickness;
     }
     Shaft { used, total }
+}
+
+// The part of each stratum between head and tip, cut from its top. Where the shaft needs more slices than a table has
+// places, one more than those is replied, and the table is left clear.
+pub fn cut_shaft(log: &[u8], pile: Pile, table: &mut [u8]) -> Shaft
+    requires { ⌜ Good (now log) × (pile .head < pile .tip) × (pile .tip ≤ 40000) × (pile .tip ≤ depthOf (rowsOf (now log))) × (length (now table) ≡ tableSize) ⌝ }
+    ensures { λ r. ⌜ (r ≡ shaftOf (cutOf (rowsOf (now (log .entry))) pile)) × (r .total ≤ 6400000000000) ⌝ }
+    ensures { λ _. ⌜ now (table .exit) ≡ tableOf (cutOf (rowsOf (now (log .entry))) pile) ⌝ }
+{
+    let kpa = friction_table::rows();
+    let metres = friction_table::metres();
+    cut_along(&kpa, &metres, log, pile, table)
 }

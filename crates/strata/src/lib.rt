@@ -1,7 +1,8 @@
 // The strata along a log's rows: what parts two of them, and the one that holds a millimetre.
 ghost use mathlib.Core.Path.{_≡_};
 ghost use Prim.Native.Nat.{_<_};
-ghost use Rattle.rules.specs.Base.{pick};
+ghost use lib.Dec.{leb};
+ghost use Rattle.rules.specs.Base.{pick, either};
 ghost use Rattle.rules.specs.Checks.{depthOf};
 ghost use Rattle.rules.specs.Ground.{same, soilOf};
 ghost use Rattle.rules.specs.Packed.{rowsOf};
@@ -38,6 +39,16 @@ pub fn same_soil(s: Soil, t: Soil) -> bool
         return false;
     }
     s.saturation == t.saturation
+}
+
+// Whether row r goes to the open stratum, of this soil down to bottom: it has the same soil, or the stratum lies above depth at.
+pub fn joins(soil: Soil, bottom: u64, at: u64, r: Row) -> bool
+    ensures { λ t. ⌜ t ≡ either (leb bottom at) (same soil (soilOf r)) ⌝ }
+{
+    if bottom <= at {
+        return true;
+    }
+    same_soil(soil, soil_of(r))
 }
 
 // Where the run of soil s begins whose first row is at bottom, below soil's run from top.

@@ -51,7 +51,7 @@ fn work_pile(log: &[u8], pile: Pile, table: &mut [u8]) -> Worked
     let tip = pile.tip as u64;
     let stratum = strata::stratum_at(log, tip);
     let soil = stratum.soil;
-    let read = tables::tip_resistance(tip, soil.index);
+    let read = tips::tip_resistance(tip, soil.index);
     let late = tip_refusal(pile, soil, stratum.top, read);
     if late != 0 {
         return no_work(table, refuse(late));

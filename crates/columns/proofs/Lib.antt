@@ -1,0 +1,2 @@
+-- Laws of weights.
+pub mod Means

@@ -1,0 +1,2 @@
+-- Which column a reading has.
+pub mod Across

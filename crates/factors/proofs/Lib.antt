@@ -1,0 +1,2 @@
+-- Laws of the method factor.
+pub mod Laws

@@ -1,0 +1,2 @@
+-- Where a reading of table 7.3 stands.
+pub mod Standings

@@ -1,0 +1,75 @@
+-- `places::row_for` meets its contract. The loop keeps what is left of the search equal to the whole of it.
+use mathlib.Core.Path.{_≡_, sym, _∙_}
+use Prim.Native.Nat.{_≤_, _-_}
+use native.Mathlib.Omega.{arith}
+use Rattle.rules.specs.Tables.{rowFor}
+use Rattle.places.proofs.Search.{loop-starts, loop-stops, loop-goes, loop-ends, found}
+use Rattle.columns.proofs.Means.{product}
+use borrow.Author.Needs.{needs}
+use Rattle.places.proofs.row_for.Statement.{statement}
+use Rattle.places.proofs.row_for.Tie as tie
+
+abbrev Inv-loop : tie.InvT-loop
+Inv-loop ds unit m d i₀ i = (i ≤ m) × (rowFor ds unit (m - i) i d ≡ rowFor ds unit m 0 d)
+
+abbrev μ-loop : tie.MeasureT-loop
+μ-loop ds unit m d i₀ i = m - i
+
+loop-holds : tie.Need-loop-holds Inv-loop μ-loop
+loop-holds c = (omega arith, loop-starts _ _ _ _)
+
+add-wide : tie.Need-add-wide Inv-loop μ-loop
+add-wide c = search needs
+
+shared-slice-read-wide : tie.Need-shared-slice-read-wide Inv-loop μ-loop
+shared-slice-read-wide c = search needs
+
+wide-requires : tie.Need-wide-requires Inv-loop μ-loop
+wide-requires c κs = search needs
+
+mul-if1 : tie.Need-mul-if1 Inv-loop μ-loop
+mul-if1 c = omega (arith, product {a = c .wide .result} {b = c .before .before .before .before .before .args .unit} 255 2000 (omega arith) (omega arith))
+
+returns : tie.Need-returns Inv-loop μ-loop
+returns c =
+    let a = c .before .before .before .before .before .before .args in
+    let e = sym (loop-stops (a .ds .now) (a .unit) (a .m) (a .d) _ _ (omega arith) (c .before .wide .ensures .0) (c .if1 .taken))
+    ∙ c .before .before .before .before .loop .inv .1 in
+    (e, found (a .ds .now) (a .unit) (a .m) (a .d) _ (omega arith) (omega arith) e)
+
+add-i : tie.Need-add-i Inv-loop μ-loop
+add-i c = search needs
+
+loop-less : tie.Need-loop-less Inv-loop μ-loop
+loop-less c = search needs
+
+loop-again : tie.Need-loop-again Inv-loop μ-loop
+loop-again c =
+    let a = c .before .before .before .before .before .before .args in (
+      omega arith,
+      sym (loop-goes (a .ds .now) (a .unit) (a .m) (a .d) _ _ (omega arith) (c .before .wide .ensures .0) (c .if1 .left))
+          ∙ c .before .before .before .before .loop .inv .1,
+    )
+
+returns-2 : tie.Need-returns-2 Inv-loop μ-loop
+returns-2 c =
+    let a = c .before .before .before .args in
+    let e = sym (loop-ends (a .ds .now) (a .unit) (a .m) (a .d) _ (omega arith)) ∙ c .before .loop .inv .1 in
+    (e, found (a .ds .now) (a .unit) (a .m) (a .d) _ (omega arith) (omega arith) e)
+
+pub row-for-spec : {M : Type 1} → statement M
+row-for-spec =
+    tie.close
+    (tie.spec
+    Inv-loop
+    μ-loop
+    loop-holds
+    add-wide
+    shared-slice-read-wide
+    wide-requires
+    mul-if1
+    returns
+    add-i
+    loop-less
+    loop-again
+    returns-2)

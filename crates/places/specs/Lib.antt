@@ -1,0 +1,2 @@
+-- What reading a table needs and gives.
+pub mod Standing

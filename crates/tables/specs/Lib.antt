@@ -1,2 +1,0 @@
--- What reading a table needs and gives.
-pub mod Reading

@@ -1,0 +1,2 @@
+-- What a reading of table 7.8 goes through.
+pub mod Cells
