@@ -85,17 +85,36 @@ fn show(a: Answer, log: u64, table: u64) {
     io::write_all(1, b"\n");
 }
 
-// Bytes 1 to 6 say how much of each of the three is lent, 7 to 18 are kind, k and x, 19 is the new row's length, and its bytes follow.
-fn ask(log: &mut [u8], pile: &[u8], table: &mut [u8], s: [u8; 25]) {
-    let kind = four(two(s[7], s[8]), two(s[9], s[10]));
-    let k = four(two(s[11], s[12]), two(s[13], s[14]));
-    let x = four(two(s[15], s[16]), two(s[17], s[18]));
-    let row = [s[20], s[21], s[22], s[23], s[24], 0, 0, 0];
-    let a = io::count(two(s[1], s[2]) as isize, log);
-    let b = io::count(two(s[3], s[4]) as isize, pile);
-    let c = io::count(two(s[5], s[6]) as isize, table);
-    let d = io::count(two(0, s[19]) as isize, &row);
-    let reply = edits::edit(
+// How much of the log, the pile record, the table and the new row is lent.
+struct Lent {
+    log: u32,
+    pile: u32,
+    table: u32,
+    row: u32,
+}
+
+// The four bytes from i on, as one number.
+fn number(s: [u8; 25], i: usize) -> u32
+    requires { ⌜ i ≤ 21 ⌝ }
+{
+    four(two(s[i], s[i + 1]), two(s[i + 2], s[i + 3]))
+}
+
+fn ask(
+    log: &mut [u8],
+    pile: &[u8],
+    table: &mut [u8],
+    lent: Lent,
+    kind: u32,
+    k: u32,
+    x: u32,
+    row: &[u8],
+) -> Answer {
+    let a = io::count(lent.log as isize, log);
+    let b = io::count(lent.pile as isize, pile);
+    let c = io::count(lent.table as isize, table);
+    let d = io::count(lent.row as isize, row);
+    edits::edit(
         &mut log[..a],
         &pile[..b],
         &mut table[..c],
@@ -103,6 +122,27 @@ fn ask(log: &mut [u8], pile: &[u8], table: &mut [u8], s: [u8; 25]) {
         k,
         x,
         &row[..d],
+    )
+}
+
+// Bytes 1 to 6 say how much of each of the three is lent, 7 to 18 are kind, k and x, 19 is the new row's length, and its bytes follow.
+fn edit(log: &mut [u8], pile: &[u8], table: &mut [u8], s: [u8; 25]) {
+    let lent = Lent {
+        log: two(s[1], s[2]),
+        pile: two(s[3], s[4]),
+        table: two(s[5], s[6]),
+        row: two(0, s[19]),
+    };
+    let row = [s[20], s[21], s[22], s[23], s[24], 0, 0, 0];
+    let reply = ask(
+        log,
+        pile,
+        table,
+        lent,
+        number(s, 7),
+        number(s, 11),
+        number(s, 15),
+        &row,
     );
     show(reply, sum(log), sum(table));
 }
@@ -113,7 +153,7 @@ fn run(log: &mut [u8], pile: &mut [u8], table: &mut [u8], s: [u8; 25]) {
     let bytes = [s[20], s[21], s[22], s[23], s[24]];
     let n = least(two(0, s[19]) as usize, 5);
     match s[0] {
-        0 => ask(log, pile, table, s),
+        0 => edit(log, pile, table, s),
         1 => put(log, at, bytes, n),
         2 => put(pile, at, bytes, n),
         _ => put(table, at, bytes, n),

@@ -52,7 +52,7 @@ slice-aggregate-kept-count c = search needs
 kept-count-requires : tie.Need-kept-count-requires
 kept-count-requires c κs =
     let g = fair (c .before .before .before .before .before .before .before .before .before .before .before .before .before) in
-    (few _ _ _ _ g _ (c .before .before .before .before .before .before .before .before .before .change .ensures) _ (c .before .before .before .before .work-out .ensures .0 .1), search needs, ap (λ (t : List ℕ). length t) (c .before .before .before .before .before .before .before .before .before .before .before .table-copy .ensures) ∙ g .table)
+    (omega (arith, few _ _ _ _ g _ (c .before .before .before .before .before .before .before .before .before .change .ensures) _ (c .before .before .before .before .work-out .ensures .0 .1)), search needs, ap (λ (t : List ℕ). length t) (c .before .before .before .before .before .before .before .before .before .before .before .table-copy .ensures) ∙ g .table)
 
 cast-answer : tie.Need-cast-answer
 cast-answer c = record { fits = omega (arith, few _ _ _ _ (fair (c .before .before .before .before .before .before .before .before .before .before .before .before .before .before .before)) _ (c .before .before .before .before .before .before .before .before .before .before .before .change .ensures) _ (c .before .before .before .before .before .before .work-out .ensures .0 .1), c .before .kept-count .ensures .1) }
