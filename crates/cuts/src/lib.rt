@@ -9,6 +9,7 @@ ghost use mathlib.Core.Path.{_≡_};
 ghost use Prim.Native.Nat.{_<_, min};
 ghost use lib.ListN.{length};
 ghost use Rattle.rules.specs.Limits.{placeLimit, tableSize};
+ghost use Rattle.friction_table.specs.Printed.{Lent};
 ghost use Rattle.cuts.specs.Cuts.{sliceHere, putAt, Fields, Read, Weighed, Done};
 use rules::Pile;
 use rules::Slice;
@@ -32,14 +33,21 @@ fn smaller(a: u64, b: u64) -> u64
 }
 
 // The slice that begins at depth at, in a stratum of this soil down to bottom: at most 2,000 mm, and no further than the tip.
-fn next_slice(pile: Pile, soil: Soil, at: u64, bottom: u64) -> Slice
-    requires { ⌜ (at < pile .tip) × (at < bottom) ⌝ }
+fn next_slice(
+    rows: &[[u8; 10]; 13],
+    metres: &[[u8; 2]; 36],
+    pile: Pile,
+    soil: Soil,
+    at: u64,
+    bottom: u64,
+) -> Slice
+    requires { ⌜ (at < pile .tip) × (at < bottom) × Lent (now rows) (now metres) ⌝ }
     ensures { λ r. ⌜ Read (sliceHere pile soil at bottom) r ⌝ }
 {
     let tip = pile.tip as u64;
     let thickness = smaller(smaller(SLICE_LIMIT, tip - at), bottom - at);
     // Friction is read at the mid-depth, in half millimetres.
-    let friction = friction::friction(soil, at + at + thickness);
+    let friction = friction::friction(rows, metres, soil, at + at + thickness);
     let factor = factors::factor(pile.method, soil.kind);
     Slice {
         top: at as u16,
@@ -57,20 +65,22 @@ fn weigh(c: Slice) -> u64
     c.friction as u64 * c.thickness as u64 * c.factor as u64
 }
 
-// The next slice, put into its place.
+// The next slice, with friction from the lent rows and metres, put into its place.
 pub fn cut_slice(
     table: &mut [u8],
     place: usize,
+    rows: &[[u8; 10]; 13],
+    metres: &[[u8; 2]; 36],
     pile: Pile,
     soil: Soil,
     at: u64,
     bottom: u64,
 ) -> Cut
-    requires { ⌜ (place < placeLimit) × (length (now table) ≡ tableSize) × (at < pile .tip) × (at < bottom) ⌝ }
+    requires { ⌜ (place < placeLimit) × (length (now table) ≡ tableSize) × (at < pile .tip) × (at < bottom) × Lent (now rows) (now metres) ⌝ }
     ensures { λ r. ⌜ Done (sliceHere pile soil at bottom) r ⌝ }
     ensures { λ _. ⌜ now (table .exit) ≡ putAt (now (table .entry)) place (sliceHere pile soil at bottom) ⌝ }
 {
-    let c = next_slice(pile, soil, at, bottom);
+    let c = next_slice(rows, metres, pile, soil, at, bottom);
     put_slice(table, place, c);
     let weight = weigh(c);
     Cut {

@@ -14,6 +14,7 @@ ghost use Rattle.rules.specs.Ground.{same, soilOf};
 ghost use Rattle.rules.specs.Limits.{tableSize};
 ghost use Rattle.rules.specs.Packed.{rowsOf};
 ghost use Rattle.strata.specs.Good.{Good};
+ghost use Rattle.friction_table.specs.Printed.{Lent};
 ghost use Rattle.shaft.specs.Shafts.{cutOf, shaftOf, tableOf};
 use rules::Pile;
 use rules::Row;
@@ -41,8 +42,14 @@ fn joins(soil: Soil, bottom: u64, at: u64, r: Row) -> bool
 
 // The part of each stratum between head and tip, cut from its top. Where the shaft needs more slices than a table has
 // places, one more than those is replied, and the table is left clear.
-pub fn cut_shaft(log: &[u8], pile: Pile, table: &mut [u8]) -> Shaft
-    requires { ⌜ Good (now log) × (pile .head < pile .tip) × (pile .tip ≤ 40000) × (pile .tip ≤ depthOf (rowsOf (now log))) × (length (now table) ≡ tableSize) ⌝ }
+fn cut_down(
+    rows: &[[u8; 10]; 13],
+    metres: &[[u8; 2]; 36],
+    log: &[u8],
+    pile: Pile,
+    table: &mut [u8],
+) -> Shaft
+    requires { ⌜ Good (now log) × (pile .head < pile .tip) × (pile .tip ≤ 40000) × (pile .tip ≤ depthOf (rowsOf (now log))) × (length (now table) ≡ tableSize) × Lent (now rows) (now metres) ⌝ }
     ensures { λ r. ⌜ (r ≡ shaftOf (cutOf (rowsOf (now (log .entry))) pile)) × (r .total ≤ 6400000000000) ⌝ }
     ensures { λ _. ⌜ now (table .exit) ≡ tableOf (cutOf (rowsOf (now (log .entry))) pile) ⌝ }
 {
@@ -78,10 +85,21 @@ pub fn cut_shaft(log: &[u8], pile: Pile, table: &mut [u8]) -> Shaft
                 total: 0,
             };
         }
-        let cut = cut_slice(table, used, pile, soil, at, bottom);
+        let cut = cut_slice(table, used, rows, metres, pile, soil, at, bottom);
         total += cut.weight;
         used += 1;
         at += cut.thickness;
     }
     Shaft { used, total }
+}
+
+// The same, with table 7.3 made once for all slices.
+pub fn cut_shaft(log: &[u8], pile: Pile, table: &mut [u8]) -> Shaft
+    requires { ⌜ Good (now log) × (pile .head < pile .tip) × (pile .tip ≤ 40000) × (pile .tip ≤ depthOf (rowsOf (now log))) × (length (now table) ≡ tableSize) ⌝ }
+    ensures { λ r. ⌜ (r ≡ shaftOf (cutOf (rowsOf (now (log .entry))) pile)) × (r .total ≤ 6400000000000) ⌝ }
+    ensures { λ _. ⌜ now (table .exit) ≡ tableOf (cutOf (rowsOf (now (log .entry))) pile) ⌝ }
+{
+    let rows = friction_table::rows();
+    let metres = friction_table::metres();
+    cut_down(&rows, &metres, log, pile, table)
 }

@@ -16,8 +16,8 @@ put-slice-requires c κs = search needs
 weigh-requires : tie.Need-weigh-requires
 weigh-requires c κs = search needs
 
-cast-t12 : tie.Need-cast-t12
-cast-t12 c = search needs
+cast-t14 : tie.Need-cast-t14
+cast-t14 c = search needs
 
 same-length : tie.Need-same-length
 same-length c = search needs
@@ -32,4 +32,4 @@ returns c =
 pub cut-slice-spec : {M : Type 1} → statement M
 cut-slice-spec =
     tie.close
-    (tie.spec next-slice-requires put-slice-requires weigh-requires cast-t12 same-length returns)
+    (tie.spec next-slice-requires put-slice-requires weigh-requires cast-t14 same-length returns)

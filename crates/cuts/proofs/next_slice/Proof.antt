@@ -31,14 +31,14 @@ friction-requires c κs = search needs
 factor-requires : tie.Need-factor-requires
 factor-requires c κs = search needs
 
-cast-t12 : tie.Need-cast-t12
-cast-t12 c = search needs
-
-cast-t13 : tie.Need-cast-t13
-cast-t13 c = search needs
-
 cast-t14 : tie.Need-cast-t14
 cast-t14 c = search needs
+
+cast-t15 : tie.Need-cast-t15
+cast-t15 c = search needs
+
+cast-t16 : tie.Need-cast-t16
+cast-t16 c = search needs
 
 returns : tie.Need-returns
 returns c =
@@ -58,7 +58,7 @@ next-slice-spec =
     add-friction-2
     friction-requires
     factor-requires
-    cast-t12
-    cast-t13
     cast-t14
+    cast-t15
+    cast-t16
     returns)

@@ -1,4 +1,4 @@
--- `shaft::cut_shaft` meets its contract: the shaft is cut down to depth at, the stratum that is open there is known, and the row
+-- `shaft::cut_down` meets its contract: the shaft is cut down to depth at, the stratum that is open there is known, and the row
 -- in hand is the next of the log.
 use borrow.Author.Needs.{needs}
 use mathlib.Core.Path.{_≡_, refl, sym, _∙_}
@@ -10,15 +10,15 @@ use Rattle.rules.specs.Packed.{rowAt, rowsOf}
 use Rattle.strata.proofs.LogLaws.{row-left, row-fits}
 use Rattle.shaft.proofs.StratumLaws.{Open, open-none, open-more, open-on, Whole, whole-before, whole-last}
 use Rattle.shaft.proofs.CutLaws.{Doing, doing-none, doing-more, doing-long, over-shaft, over-table, all-shaft, all-table, thick, shorter}
-use Rattle.shaft.proofs.cut_shaft.Statement.{statement}
-use Rattle.shaft.proofs.cut_shaft.Tie as tie
+use Rattle.shaft.proofs.cut_down.Statement.{statement}
+use Rattle.shaft.proofs.cut_down.Tie as tie
 
 abbrev Inv-loop : tie.InvT-loop
-Inv-loop log pile table₀ n tip used₀ total₀ soil₀ bottom₀ at₀ next₀ row₀ table used total soil bottom at next row =
+Inv-loop rows metres log pile table₀ n tip used₀ total₀ soil₀ bottom₀ at₀ next₀ row₀ table used total soil bottom at next row =
     (next ≤ n) × Open (rowsOf log) next at bottom soil × Doing (rowsOf log) pile used at table total × (row ≡ rowAt log ((1 + next * rowSize) * 8))
 
 abbrev μ-loop : tie.MeasureT-loop
-μ-loop log pile table₀ n tip used₀ total₀ soil₀ bottom₀ at₀ next₀ row₀ table used total soil bottom at next row = (tip - at) + (n - next)
+μ-loop rows metres log pile table₀ n tip used₀ total₀ soil₀ bottom₀ at₀ next₀ row₀ table used total soil bottom at next row = (tip - at) + (n - next)
 
 clear-table-requires : tie.Need-clear-table-requires Inv-loop μ-loop
 clear-table-requires c κs = c .before .before .before .pre .4
@@ -111,7 +111,7 @@ returns c =
 cut-slice-requires : tie.Need-cut-slice-requires Inv-loop μ-loop
 cut-slice-requires c κs =
     let l = c .before .before .before .before .loop in
-    (omega (arith, l .inv .2 .few, c .before .if3 .left), doing-long _ _ _ _ _ _ (l .inv .2), c .before .before .before .loop-test .taken, whole (c .before .before) .here)
+    (omega (arith, l .inv .2 .few, c .before .if3 .left), doing-long _ _ _ _ _ _ (l .inv .2), c .before .before .before .loop-test .taken, whole (c .before .before) .here, c .before .before .before .before .before .before .before .before .before .before .before .before .before .before .before .pre .5)
 
 add-total : tie.Need-add-total Inv-loop μ-loop
 add-total c =
@@ -155,8 +155,8 @@ returns-2 c =
       all-table _ _ _ _ _ _ (c .loop-test .left) (l .inv .2),
     )
 
-pub cut-shaft-spec : {M : Type 1} → statement M
-cut-shaft-spec =
+pub cut-down-spec : {M : Type 1} → statement M
+cut-down-spec =
     tie.close
     (tie.spec
     Inv-loop
