@@ -1,24 +1,23 @@
 -- Friction by 20,000ths of the way down and tenths across is that of the definition.
 use mathlib.Core.Path.{_≡_, sym, _∙_, ap}
 use mathlib.Core.List.{List, []}
-use Prim.Native.Nat.{ℕ, _+_, _*_, _-_, _/_, _<_, _≤_}
+use Prim.Native.Nat.{ℕ, _+_, _*_, _-_, _≤_}
 use native.Mathlib.Nat.{add-mul, mul-comm, mul-sub, mul-right-comm, eq-of-mul-eq-mul-right}
 use native.Mathlib.Omega.{arith}
 use lib.ListN.{getD}
-use Rattle.rules.specs.Tables.{frictionDepths, frictionRows, frictionCell, frictionWeighed, frictionAt, weighed, placeOf}
+use Rattle.rules.specs.Tables.{frictionDepths, frictionRows, frictionCell, frictionWeighed, frictionAt, placeOf}
 use Rattle.rules.specs.Numbers.{friction, frictionPlace, right}
 use Rattle.rules.specs.declared.Place.{Place}
 use Rattle.rules.specs.declared.Soil.{Soil}
 use Rattle.rules.proofs.TableLaws.{friction-whole}
 use Rattle.columns.specs.declared.Column.{Column}
 use Rattle.columns.specs.Across.{Across}
-use Rattle.columns.proofs.Means.{mean}
 use Rattle.places.specs.Standing.{InTable}
 use Rattle.places.proofs.Search.{in-table}
 use Rattle.places.proofs.Weights.{weighed-le, weighed-is, shared}
 use Rattle.friction.specs.declared.Standing.{Standing}
 use Rattle.friction_table.specs.Printed.{headed}
-use Rattle.friction.specs.Standings.{placeAt, Stands}
+use Rattle.friction.specs.Standings.{Stands}
 use Rattle.friction.proofs.Standings.{friction-deepens, cells, cell-is}
 
 -- part of n, down of span: the same share
@@ -58,10 +57,6 @@ friction-is s mid rows st c upper lower r t k e f =
     eq-of-mul-eq-mul-right (p .span) (w .weights .some) _ _
     (shares 20000 (st .part) (p .down) (p .span) upper lower (t .part)
     ∙ ap (λ (x : ℕ). x * 20000) (weighed-is p _ _ _ _ upper lower u l) ∙ sym (friction-whole s mid))
-
--- both rows' parts fit
-pub sum-fits : (part upper lower : ℕ) → part ≤ 20000 → upper ≤ 45000 → lower ≤ 45000 → (20000 - part) * upper + part * lower ≤ 900000000
-sum-fits part upper lower h i j = mean (20000 - part) part 20000 upper lower 45000 (omega arith) i j
 
 friction-le : (p : Place) → InTable 11 7 p → frictionAt p ≤ 20000000
 unfolding frictionAt

@@ -6,7 +6,7 @@ use Prim.Native.Nat.{ℕ, zero, suc, _+_, _*_, _-_, _/_, _<_, _≤_, min, max}
 use native.Mathlib.Nat.{mul-le-mul-left, mul-comm, mul-assoc}
 use native.Mathlib.Numerals.{add-one}
 use native.Mathlib.Omega.{arith}
-use lib.Dec.{T, eqb, leb, leb→le, eqb→eq}
+use lib.Dec.{leb, leb→le}
 use lib.ListN.{getD, length}
 use Rattle.rules.specs.Tables.{frictionDepths, frictionRows, frictionCell, rowFor, placeOf}
 use Rattle.rules.proofs.Basics.{split}

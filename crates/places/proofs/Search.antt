@@ -2,7 +2,7 @@
 use mathlib.Core.Path.{_≡_, refl, _∙_}
 use mathlib.Core.Logic.{⊎-elim}
 use mathlib.Core.List.{List}
-use Prim.Native.Nat.{ℕ, zero, suc, _+_, _*_, _-_, _/_, _<_, _≤_, min, max}
+use Prim.Native.Nat.{ℕ, zero, suc, _+_, _*_, _-_, _<_, _≤_, min, max}
 use native.Mathlib.Nat.{mul-le-mul-right, mul-pos, mul-comm, mul-sub}
 use native.Mathlib.Omega.{arith}
 use lib.Dec.{T, ltb, leb, leb→le}

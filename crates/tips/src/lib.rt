@@ -3,7 +3,7 @@ ghost use mathlib.Core.Path.{_≡_};
 ghost use Prim.Native.Nat.{_*_, _/_, _<_, _≤_};
 ghost use lib.ListN.{getD};
 ghost use mathlib.Core.List.{[]};
-ghost use Rattle.rules.specs.Tables.{kpaOf, gap, tipDepths};
+ghost use Rattle.rules.specs.Tables.{kpaOf, gap};
 ghost use Rattle.rules.specs.Numbers.{tipRead, pascals};
 ghost use Rattle.places.specs.Standing.{Weights, InTable};
 ghost use Rattle.tips.specs.Cells.{cellOf, Printed, dashOf, tipReadAt};

@@ -1,9 +1,7 @@
 -- `friction::friction` meets its contract.
-use mathlib.Core.Path.{_∙_, ap}
-use Prim.Native.Nat.{_-_}
 use native.Mathlib.Omega.{arith}
-use Rattle.columns.proofs.Means.{product}
-use Rattle.friction.proofs.Reading.{friction-is, sum-fits, friction-most}
+use Rattle.columns.proofs.Means.{fits-whole}
+use Rattle.friction.proofs.Reading.{friction-is, friction-most}
 use borrow.Author.Needs.{needs}
 use Rattle.friction.proofs.friction.Statement.{statement}
 use Rattle.friction.proofs.friction.Tie as tie
@@ -45,18 +43,22 @@ mul-result : tie.Need-mul-result
 mul-result c =
     let u = c .before .before in
     let s = u .before .before .before .before in
-    omega (arith, product {a = 20000 - s .stand .result .part} {b = u .along .result} 20000 45000 (omega arith) (omega arith))
+    let f = fits-whole 20000 (s .stand .result .part) (u .along .result) (c .along2 .result) (omega arith) (omega arith) (omega arith) (omega arith) in
+    omega arith
 
 mul-result-2 : tie.Need-mul-result-2
 mul-result-2 c =
-    let s = c .before .before .before .before .before .before in
-    omega (arith, product {a = s .stand .result .part} {b = c .along2 .result} 20000 45000 (omega arith) (omega arith))
+    let u = c .before .before in
+    let s = u .before .before .before .before in
+    let f = fits-whole 20000 (s .stand .result .part) (u .along .result) (c .along2 .result) (omega arith) (omega arith) (omega arith) (omega arith) in
+    omega arith
 
 add-result : tie.Need-add-result
 add-result c =
     let u = c .before .before in
     let s = u .before .before .before .before in
-    omega (arith, sum-fits (s .stand .result .part) (u .along .result) (c .along2 .result) (omega arith) (omega arith) (omega arith))
+    let f = fits-whole 20000 (s .stand .result .part) (u .along .result) (c .along2 .result) (omega arith) (omega arith) (omega arith) (omega arith) in
+    omega arith
 
 returns : tie.Need-returns
 returns c =

@@ -1,6 +1,6 @@
 -- `friction::stand` meets its contract.
 use mathlib.Core.Path.{refl}
-use Prim.Native.Nat.{_*_, _-_, _/_}
+use Prim.Native.Nat.{_*_, _-_}
 use native.Mathlib.Omega.{arith}
 use Rattle.columns.proofs.Means.{product}
 use Rattle.friction.proofs.Standings.{row-last, read, stands}

@@ -1,7 +1,6 @@
 -- `places::weigh` meets its contract.
-use Prim.Native.Nat.{_-_}
 use native.Mathlib.Omega.{arith}
-use Rattle.columns.proofs.Means.{product}
+use Rattle.columns.proofs.Means.{fits-whole}
 use Rattle.places.proofs.Weights.{weighed-is, sum-fits}
 use borrow.Author.Needs.{needs}
 use Rattle.places.proofs.weigh.Statement.{statement}
@@ -19,17 +18,20 @@ sub-result c = search needs
 mul-result : tie.Need-mul-result
 mul-result c =
     let p = c .before .before .before .args .p in
-    omega (arith, product {a = p .span - p .down} {b = c .before .before .beside .result} 10000 45000 (omega arith) (omega arith))
+    let f = fits-whole (p .span) (p .down) (c .before .before .beside .result) (c .before .beside2 .result) (omega arith) (omega arith) (omega arith) (omega arith) in
+    omega arith
 
 mul-result-2 : tie.Need-mul-result-2
 mul-result-2 c =
     let p = c .before .before .before .args .p in
-    omega (arith, product {a = p .down} {b = c .before .beside2 .result} 10000 45000 (omega arith) (omega arith))
+    let f = fits-whole (p .span) (p .down) (c .before .before .beside .result) (c .before .beside2 .result) (omega arith) (omega arith) (omega arith) (omega arith) in
+    omega arith
 
 add-result : tie.Need-add-result
 add-result c =
-    let o = c .before .before .before in
-    omega (arith, sum-fits (o .args .p) (c .before .before .beside .result) (c .before .beside2 .result) (o .pre .0) (omega arith) (omega arith))
+    let p = c .before .before .before .args .p in
+    let f = fits-whole (p .span) (p .down) (c .before .before .beside .result) (c .before .beside2 .result) (omega arith) (omega arith) (omega arith) (omega arith) in
+    omega arith
 
 returns : tie.Need-returns
 returns c =
