@@ -1,7 +1,7 @@
 -- Bits of a list of bytes: those of a part, and those of zero bytes.
 use mathlib.Core.Path.{_≡_}
-use mathlib.Core.List.{List, []}
-use Prim.Native.Nat.{ℕ, _-_, _+_, _*_, _/_, _%_, _≤_}
+use mathlib.Core.List.{List, [], _∷_}
+use Prim.Native.Nat.{ℕ, zero, suc, _+_, _*_, _-_, _/_, _%_, _<_, _≤_}
 use native.Mathlib.Nat.{zero-div, zero-mod, add-assoc}
 use native.Mathlib.Omega.{arith}
 use lib.ListN.{length, getD, take, drop, length-drop, List·getD-eq-default}
@@ -34,3 +34,7 @@ part-whole s i = take-all (length s - i) (drop i s) (rw length-drop (omega arith
 
 pub no-bytes : Bytes []
 no-bytes k = omega arith
+
+pub byte-more : (b : ℕ) (s : List ℕ) → b < 256 → Bytes s → Bytes (b ∷ s)
+byte-more b s h k zero = h
+byte-more b s h k (suc i) = k i

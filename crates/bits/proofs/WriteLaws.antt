@@ -1,12 +1,16 @@
--- The bit writer: what eight bytes hold after each field.
+-- The bit writer: what a word holds after each field, and its bytes.
 use mathlib.Core.Path.{_≡_, refl, ap, sym, _∙_}
 use mathlib.Core.List.{List, [], _∷_}
-use Prim.Native.Nat.{ℕ, _+_, _*_, _-_, _/_, _%_, _^_, _<_}
-use native.Mathlib.Nat.{mod-add-mod, add-mod-mod, mod-eq-of-lt, div-add-mod'}
+use Prim.Native.Nat.{ℕ, _+_, _*_, _-_, _/_, _%_, _^_}
+use native.Mathlib.Nat.{mod-add-mod, add-mod-mod}
 use native.Mathlib.Omega.{arith}
 use lib.ListN.{getD}
 use Rattle.rules.specs.Packed.{fiveBytes, sevenBytes, eightBytes}
-use Rattle.bits.specs.Word.{wordOf}
+use Rattle.bits.specs.Word.{Written}
+
+-- a sum that wraps
+pub wrapped : (w x y : ℕ) → y ≡ (w + x % 18446744073709551616) % 18446744073709551616 → y ≡ (w + x) % 18446744073709551616
+wrapped w x y e = e ∙ add-mod-mod w x 18446744073709551616
 
 -- what lies k bytes further up
 up : (x q k : ℕ) → (x + q * (256 * k)) / 256 ≡ x / 256 + q * k
@@ -48,48 +52,32 @@ eight-mod w =
     let e : w % 18446744073709551616 + w / 18446744073709551616 * 18446744073709551616 ≡ w = omega arith in
     sym (past (w % 18446744073709551616) (w / 18446744073709551616)) ∙ ap eightBytes e
 
-word-small : (w : ℕ) → w < 18446744073709551616 → wordOf (eightBytes w) ≡ w
-word-small w h =
-    let t : w / 256 / 256 / 256 / 256 / 256 / 256 / 256 < 256 = omega arith in
-    simp (mod-eq-of-lt t, div-add-mod')
-
-word-back : (w : ℕ) → wordOf (eightBytes w) ≡ w % 18446744073709551616
-word-back w = ap wordOf (sym (eight-mod w)) ∙ word-small (w % 18446744073709551616) (omega arith)
-
--- a sum that wraps
-pub put-wrapped : (v w x y : ℕ) → v ≡ w → y ≡ (v + x % 18446744073709551616) % 18446744073709551616 → eightBytes y ≡ eightBytes (w + x)
-put-wrapped v w x y e f =
-    ap eightBytes (f ∙ ap (λ (z : ℕ). (z + x % 18446744073709551616) % 18446744073709551616) e ∙ add-mod-mod w x 18446744073709551616) ∙ eight-mod (w + x)
-
-put-on : (w x : ℕ) → eightBytes (wordOf (eightBytes w) + x) ≡ eightBytes (w + x)
-put-on w x =
-    ap (λ (y : ℕ). eightBytes (y + x)) (word-back w) ∙ sym (eight-mod (w % 18446744073709551616 + x)) ∙ ap eightBytes (mod-add-mod w 18446744073709551616 x) ∙ eight-mod (w + x)
-
--- b holds the number w, written up to bit k, where the cursor is
-pub record Written (b : List ℕ) (at w k : ℕ) : Type 0 where
-  pub word : b ≡ eightBytes w
+-- the cursor's word is the number x up to 2 ^ 64, and it stands at bit k
+pub record Holds (w at x k : ℕ) : Type 0 where
+  pub word : w ≡ x % 18446744073709551616
   pub place : at ≡ k
 
-pub start : Written (0 ∷ 0 ∷ 0 ∷ 0 ∷ 0 ∷ 0 ∷ 0 ∷ 0 ∷ []) 0 0 0
-start = record { word = refl; place = refl }
+pub start : (at : ℕ) → Holds 0 at 0 at
+start at = record { word = refl; place = refl }
 
 -- one field more
-pub more : {b b′ : List ℕ} {at at′ w k : ℕ} (v n : ℕ) → Written b at w k → (b′ ≡ eightBytes (wordOf b + v * 2 ^ (64 - (at + n)))) × (at′ ≡ at + n)
-    → Written b′ at′ (w + v * 2 ^ (64 - (k + n))) (k + n)
-more {b} {b′} {at} {at′} {w} {k} v n s e =
+pub more : {w at x k v n w′ at′ : ℕ} → Holds w at x k → Written w at v n w′ at′ → Holds w′ at′ (x + v * 2 ^ (64 - (k + n))) (k + n)
+more {w} {at} {x} {k} {v} {n} s p =
     record {
-      word = e .0 ∙ (rw (s .word, s .place) (put-on w (v * 2 ^ (64 - (k + n)))));
-      place = e .1 ∙ ap (λ (z : ℕ). z + n) (s .place);
+      word = p .sum ∙ (rw (s .word, s .place) (mod-add-mod x 18446744073709551616 (v * 2 ^ (64 - (k + n)))));
+      place = p .moved ∙ ap (λ (z : ℕ). z + n) (s .place);
     }
 
--- a number that stands at the top: five, seven, or all eight of its bytes
-pub top-five : (b : List ℕ) (w x : ℕ) → b ≡ eightBytes w → w ≡ x * 16777216 → getD b 0 0 ∷ getD b 1 0 ∷ getD b 2 0 ∷ getD b 3 0 ∷ getD b 4 0 ∷ [] ≡ fiveBytes x
-top-five b w x e f =
-    let d : x * 16777216 / 256 / 256 / 256 ≡ x = omega arith in
-    rw (e, f, d)
+-- all eight bytes of what was put together, the first seven where it stands at the top, the last five
+pub all-eight : {b : List ℕ} {w at x k : ℕ} (y : ℕ) → b ≡ eightBytes w → Holds w at x k → x ≡ y → b ≡ eightBytes y
+all-eight {x = x} y e s f = e ∙ ap eightBytes (s .word) ∙ eight-mod x ∙ ap eightBytes f
 
-pub top-seven : (b : List ℕ) (w x : ℕ) → b ≡ eightBytes w → w ≡ x * 256
-    → getD b 0 0 ∷ getD b 1 0 ∷ getD b 2 0 ∷ getD b 3 0 ∷ getD b 4 0 ∷ getD b 5 0 ∷ getD b 6 0 ∷ [] ≡ sevenBytes x
-top-seven b w x e f =
-    let d : x * 256 / 256 ≡ x = omega arith in
-    rw (e, f, d)
+pub top-seven : {b : List ℕ} {w at x k : ℕ} (y : ℕ) → b ≡ eightBytes w → Holds w at x k → x ≡ y * 256
+    → getD b 0 0 ∷ getD b 1 0 ∷ getD b 2 0 ∷ getD b 3 0 ∷ getD b 4 0 ∷ getD b 5 0 ∷ getD b 6 0 ∷ [] ≡ sevenBytes y
+top-seven y e s f =
+    let d : y * 256 / 256 ≡ y = omega arith in
+    rw (all-eight (y * 256) e s f, d)
+
+pub low-five : {b : List ℕ} {w at x k : ℕ} (y : ℕ) → b ≡ eightBytes w → Holds w at x k → x ≡ y
+    → getD b 3 0 ∷ getD b 4 0 ∷ getD b 5 0 ∷ getD b 6 0 ∷ getD b 7 0 ∷ [] ≡ fiveBytes y
+low-five y e s f = rw (all-eight y e s f)

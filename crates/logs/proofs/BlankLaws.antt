@@ -1,51 +1,58 @@
 -- Lists of zero bytes, looked through from the front.
-use mathlib.Core.Path.{_≡_, refl}
-use mathlib.Core.Bool.{true}
-use mathlib.Core.Logic.{⊎-elim}
+use mathlib.Core.Path.{_≡_, refl, ap, sym, _∙_}
+use mathlib.Core.Bool.{Bool, true, false, true≢false}
 use mathlib.Core.List.{List, [], _∷_}
 use Prim.Native.Nat.{ℕ, zero, suc, _+_, _-_, _<_, _≤_}
 use native.Mathlib.Numerals.{add-one}
 use native.Mathlib.Omega.{arith}
 use borrow.Author.Tests.{eq-eqb, ne-eqb, eqb-true}
+use lib.Bits.{bitOr, and-le-l, and-le-r, or-add-and}
 use lib.Dec.{eqb}
 use lib.ListN.{length, getD, drop, drop-of-length-le}
 use lib.Seq.{drop-cons, getD-drop}
-use Rattle.rules.specs.Base.{allZero}
-use Rattle.rules.proofs.Basics.{split}
+use Rattle.rules.specs.Base.{both, allZero}
 use Rattle.bits.proofs.BitLaws.{Blank}
 use Rattle.replies.proofs.TestLaws.{both-true}
 
--- the bytes added up
-unfoldable pub sumOf : List ℕ → ℕ
-sumOf [] = 0
-sumOf (b ∷ s) = b + sumOf s
+-- two bytes joined bit by bit
+none-of : (a b : ℕ) → bitOr a b ≡ 0 → (a ≡ 0) × (b ≡ 0)
+none-of a b e =
+    let l = and-le-l a b in
+    let r = and-le-r a b in
+    (omega (arith, or-add-and a b), omega (arith, or-add-and a b))
 
-pub sum-more : (s : List ℕ) (i : ℕ) → i < length s → sumOf (drop i s) ≡ getD s i 0 + sumOf (drop (i + 1) s)
-unfolding sumOf
-sum-more s i h = rw (add-one, drop-cons s i 0)
+or-none : (a b : ℕ) → eqb (bitOr a b) 0 ≡ both (eqb a 0) (eqb b 0)
+or-none a b = go (eqb a 0) (eqb b 0) refl refl
+  where
+    go : (s t : Bool) → eqb a 0 ≡ s → eqb b 0 ≡ t → eqb (bitOr a b) 0 ≡ both s t
+    go true true e f = rw (eqb-true a 0 e, eqb-true b 0 f)
+    go true false e f = ne-eqb (bitOr a b) 0 (λ (h : bitOr a b ≡ 0). true≢false (sym (eq-eqb b 0 (none-of a b h .1)) ∙ f))
+    go false t e f = ne-eqb (bitOr a b) 0 (λ (h : bitOr a b ≡ 0). true≢false (sym (eq-eqb a 0 (none-of a b h .0)) ∙ e))
 
--- bytes add up to nothing just where they are all zero
-pub sum-zero : (s : List ℕ) → eqb (sumOf s) 0 ≡ allZero s
-unfolding sumOf allZero
-sum-zero [] = refl
-sum-zero (b ∷ s) =
-    ⊎-elim
-    (λ (l : 0 < b).
-    let n : b ≡ 0 → ⊥ = λ (e : b ≡ 0). omega arith in
-    let m : b + sumOf s ≡ 0 → ⊥ = λ (e : b + sumOf s ≡ 0). omega arith in
-    rw (ne-eqb (b + sumOf s) 0 m, ne-eqb b 0 n))
-    (λ (l : b ≤ 0).
-    let z : b ≡ 0 = omega arith in
-    let y : b + sumOf s ≡ sumOf s = omega arith in
-    rw (eq-eqb b 0 z, y) (sum-zero s))
-    (split 0 b)
+-- the bytes up to i are joined in `any`: whether it and what is left are zero is whether all are
+abbrev pub Joined : List ℕ → ℕ → ℕ → ℕ → Type 0
+Joined s from any i = both (eqb any 0) (allZero (drop i s)) ≡ allZero (drop from s)
 
-pub sum-end : (s : List ℕ) (i sum from : ℕ) → length s ≤ i → sum + sumOf (drop i s) ≡ sumOf (drop from s) → eqb sum 0 ≡ allZero (drop from s)
-unfolding sumOf
-sum-end s i sum from h e =
-    let d : sumOf (drop i s) ≡ 0 = rw (drop-of-length-le s h) in
-    let f : sum ≡ sumOf (drop from s) = omega arith in
-    rw f (sum-zero (drop from s))
+both-assoc : (a b c : Bool) → both (both a b) c ≡ both a (both b c)
+both-assoc true b c = refl
+both-assoc false b c = refl
+
+pub joined-more : (s : List ℕ) (from any i : ℕ) → i < length s → Joined s from any i → Joined s from (bitOr any (getD s i 0)) (i + 1)
+unfolding allZero
+joined-more s from any i h j =
+    let d : allZero (drop i s) ≡ both (eqb (getD s i 0) 0) (allZero (drop (i + 1) s)) = rw (add-one, drop-cons s i 0) in
+    ap (λ (t : Bool). both t (allZero (drop (i + 1) s))) (or-none any (getD s i 0)) ∙ both-assoc (eqb any 0) (eqb (getD s i 0) 0) (allZero (drop (i + 1) s))
+    ∙ ap (both (eqb any 0)) (sym d) ∙ j
+
+pub joined-end : (s : List ℕ) (from any i : ℕ) → length s ≤ i → Joined s from any i → eqb any 0 ≡ allZero (drop from s)
+unfolding allZero
+joined-end s from any i h j =
+    let d : allZero (drop i s) ≡ true = rw (drop-of-length-le s h) in
+    sym (both-one (eqb any 0)) ∙ ap (both (eqb any 0)) (sym d) ∙ j
+  where
+    both-one : (t : Bool) → both t true ≡ t
+    both-one true = refl
+    both-one false = refl
 
 all-zero : (s : List ℕ) (k : ℕ) → allZero s ≡ true → getD s k 0 ≡ 0
 unfolding allZero

@@ -20,7 +20,7 @@ use Rattle.replies.proofs.TestLaws.{neg-false}
 use Rattle.logs.specs.declared.Checked.{Checked}
 use Rattle.logs.specs.Checks.{checkedBy, checkedLog, earlyChecks, deepChecked, rowsChecked}
 use Rattle.logs.specs.Rows.{rowsRead}
-use Rattle.logs.proofs.RowsLaws.{no, rows-read, left-row, wrong-here, wrong-below}
+use Rattle.logs.proofs.RowsLaws.{no, rows-read, row-here, left-row, wrong-here, wrong-below}
 
 pub early-long : (s : List ℕ) → (length s ≡ logSize → ⊥) → refuse 1 ≡ earlyChecks s
 unfolding earlyChecks first when
@@ -109,17 +109,12 @@ checking-start s n =
     let m : n - 0 ≡ n = omega arith in
     record { few = omega arith; small = omega arith; left = ap (λ (k : ℕ). firstWrong 1 (rowsFrom s 8 k)) m; deep = omega (arith, ap (λ (k : ℕ). depthOf (rowsFrom s 8 k)) m) }
 
-here : (s : List ℕ) (i : ℕ) (r : Row) → r ≡ rowAt s ((1 + i * 5) * 8) → r ≡ rowAt s (8 + i * 40)
-here s i r e =
-    let p : (1 + i * 5) * 8 ≡ 8 + i * 40 = omega arith in
-    e ∙ ap (rowAt s) p
-
 pub checking-wrong : (s : List ℕ) (n d i : ℕ) (r : Row) (f : ℕ) → Checking s n d i → i < n → r ≡ rowAt s ((1 + i * 5) * 8) → f ≡ wrongField r → 0 < f
     → _≡_ {A = Checked} (record { refusal = record { number = 3; row = i + 1; field = f }; depth = 0 }) (rowsChecked s n)
 unfolding rowsChecked first
 checking-wrong s n d i r f k h e g w =
     let q : record { number = 3; row = i + 1; field = f } ≡ firstWrong 1 (rowsFrom s 8 n) =
-    wrong-here (i + 1) f r _ g w ∙ ap (firstWrong (i + 1)) (left-row s n i r h (here s i r e)) ∙ k .left in
+    wrong-here (i + 1) f r _ g w ∙ ap (firstWrong (i + 1)) (left-row s n i r h (row-here s i r e)) ∙ k .left in
     rw (← q)
 
 pub checking-more : (s : List ℕ) (n d i : ℕ) (r : Row) (f : ℕ) → Checking s n d i → i < n → r ≡ rowAt s ((1 + i * 5) * 8) → f ≡ wrongField r → f ≤ 0 → r .thickness < 65536
@@ -127,7 +122,7 @@ pub checking-more : (s : List ℕ) (n d i : ℕ) (r : Row) (f : ℕ) → Checkin
 unfolding depthOf
 checking-more s n d i r f k h e g w b =
     let rest = rowsFrom s (8 + (i + 1) * 40) (n - (i + 1)) in
-    let q : r ∷ rest ≡ rowsFrom s (8 + i * 40) (n - i) = left-row s n i r h (here s i r e) in
+    let q : r ∷ rest ≡ rowsFrom s (8 + i * 40) (n - i) = left-row s n i r h (row-here s i r e) in
     let z : depthOf (r ∷ rest) ≡ depthOf (rowsFrom s (8 + i * 40) (n - i)) = ap depthOf q in
     record {
       few = omega arith;

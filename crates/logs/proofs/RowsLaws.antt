@@ -78,37 +78,40 @@ pub wrong-below : (k f : ℕ) (r : Row) (rs : List Row) → f ≡ wrongField r �
 unfolding firstWrong
 wrong-below k f r rs e h = rw (← e, le-ltb _ _ h)
 
--- reading n rows of s: i are read, the cursor stands at `at`, and what is left has the same first refusal
-pub record Reading (s : List ℕ) (n : ℕ) (l : Log) (at i : ℕ) : Type 0 where
+-- row i of a log begins at byte 1 + i * 5
+pub row-here : (s : List ℕ) (i : ℕ) (r : Row) → r ≡ rowAt s ((1 + i * 5) * 8) → r ≡ rowAt s (8 + i * 40)
+row-here s i r e =
+    let p : (1 + i * 5) * 8 ≡ 8 + i * 40 = omega arith in
+    e ∙ ap (rowAt s) p
+
+-- reading n rows of s: i are read, and what is left has the same first refusal
+pub record Reading (s : List ℕ) (n : ℕ) (l : Log) (i : ℕ) : Type 0 where
   pub few : i ≤ n
-  pub place : at ≡ 8 + i * 40
   pub count : l .count ≡ n
   pub rows : l .rows ≡ filled s i
   pub left : firstWrong (i + 1) (rowsFrom s (8 + i * 40) (n - i)) ≡ firstWrong 1 (rowsFrom s 8 n)
 
-pub reading-start : (s : List ℕ) (n : ℕ) (l : Log) → l .count ≡ n → l .rows ≡ replicate rowLimit noRow → Reading s n l 8 0
+pub reading-start : (s : List ℕ) (n : ℕ) (l : Log) → l .count ≡ n → l .rows ≡ replicate rowLimit noRow → Reading s n l 0
 unfolding rowsFrom
 reading-start s n l e f =
     let m : n - 0 ≡ n = omega arith in
-    record { few = omega arith; place = refl; count = e; rows = f; left = ap (λ (k : ℕ). firstWrong 1 (rowsFrom s 8 k)) m }
+    record { few = omega arith; count = e; rows = f; left = ap (λ (k : ℕ). firstWrong 1 (rowsFrom s 8 k)) m }
 
 -- a row whose field f is out of range
-pub reading-wrong : (s : List ℕ) (n : ℕ) (l : Log) (at i : ℕ) (r : Row) (f : ℕ) → Reading s n l at i → i < n → r ≡ rowAt s at → f ≡ wrongField r → 0 < f
+pub reading-wrong : (s : List ℕ) (n : ℕ) (l : Log) (i : ℕ) (r : Row) (f : ℕ) → Reading s n l i → i < n → r ≡ rowAt s ((1 + i * 5) * 8) → f ≡ wrongField r → 0 < f
     → _≡_ {A = LogRead} (record { refusal = record { number = 3; row = i + 1; field = f }; log = noLog }) (rowsRead s n)
 unfolding rowsRead
-reading-wrong s n l at i r f d h e g w =
-    let a : r ≡ rowAt s (8 + i * 40) = e ∙ ap (rowAt s) (d .place) in
+reading-wrong s n l i r f d h e g w =
     let q : record { number = 3; row = i + 1; field = f } ≡ firstWrong 1 (rowsFrom s 8 n) =
-    wrong-here (i + 1) f r _ g w ∙ ap (firstWrong (i + 1)) (left-row s n i r h a) ∙ d .left in
+    wrong-here (i + 1) f r _ g w ∙ ap (firstWrong (i + 1)) (left-row s n i r h (row-here s i r e)) ∙ d .left in
     rw (← q)
 
-pub reading-more : (s : List ℕ) (n : ℕ) (l : Log) (at i : ℕ) (r : Row) (f at′ : ℕ) → Reading s n l at i → i < n → n ≤ rowLimit → r ≡ rowAt s at → f ≡ wrongField r → f ≤ 0
-    → at′ ≡ at + 40 → Reading s n (record { count = l .count; rows = set (l .rows) i r }) at′ (i + 1)
-reading-more s n l at i r f at′ d h k e g w p =
-    let a : r ≡ rowAt s (8 + i * 40) = e ∙ ap (rowAt s) (d .place) in
+pub reading-more : (s : List ℕ) (n : ℕ) (l : Log) (i : ℕ) (r : Row) (f : ℕ) → Reading s n l i → i < n → n ≤ rowLimit → r ≡ rowAt s ((1 + i * 5) * 8) → f ≡ wrongField r → f ≤ 0
+    → Reading s n (record { count = l .count; rows = set (l .rows) i r }) (i + 1)
+reading-more s n l i r f d h k e g w =
+    let a : r ≡ rowAt s (8 + i * 40) = row-here s i r e in
     record {
       few = omega arith;
-      place = omega (arith, d .place);
       count = d .count;
       rows = ap (λ (t : List Row). set t i r) (d .rows) ∙ fill-more s i r (omega arith) a;
       left = wrong-below (i + 1) f r _ g w ∙ ap (firstWrong (i + 1)) (left-row s n i r h a) ∙ d .left;
@@ -117,9 +120,9 @@ reading-more s n l at i r f at′ d h k e g w p =
 log-is : (l : Log) (n : ℕ) (rs : List Row) → l .count ≡ n → l .rows ≡ rs → _≡_ {A = Log} l (record { count = n; rows = rs })
 log-is l n rs e f = rw (← e, ← f)
 
-pub reading-end : (s : List ℕ) (n : ℕ) (l : Log) (at i : ℕ) → Reading s n l at i → n ≤ i → _≡_ {A = LogRead} (record { refusal = nothing; log = l }) (rowsRead s n)
+pub reading-end : (s : List ℕ) (n : ℕ) (l : Log) (i : ℕ) → Reading s n l i → n ≤ i → _≡_ {A = LogRead} (record { refusal = nothing; log = l }) (rowsRead s n)
 unfolding rowsRead firstWrong rowsFrom
-reading-end s n l at i d h =
+reading-end s n l i d h =
     let m : n - i ≡ 0 = omega (arith, d .few) in
     let e : i ≡ n = omega (arith, d .few) in
     let q : nothing ≡ firstWrong 1 (rowsFrom s 8 n) = rw m at (d .left) in

@@ -1,20 +1,17 @@
 // Reading a log and checking it: its count and its 64 row places, in 321 bytes.
-use bits::Cursor;
-use bits::wide;
 use replies::refuse;
 use rows::no_row;
 use rows::read_row;
 use rows::row_field;
-use rows::take_row;
 use rules::Log;
 use rules::LogRead;
 use rules::Refusal;
 ghost use mathlib.Core.Path.{_≡_};
 ghost use Prim.Native.Nat.{_≤_};
-ghost use lib.ListN.{length, drop};
+ghost use lib.ListN.{drop};
 ghost use Rattle.rules.specs.Base as base;
 ghost use Rattle.rules.specs.Base.{allZero};
-ghost use Rattle.rules.specs.Limits.{rowLimit, logSize};
+ghost use Rattle.rules.specs.Limits.{rowLimit};
 ghost use Rattle.rules.specs.Checks.{countWrong};
 ghost use Rattle.rules.specs.Reading.{noLog, readLog};
 ghost use Rattle.logs.specs.Rows.{rowsRead};
@@ -47,18 +44,17 @@ fn no_log(r: Refusal) -> LogRead
     }
 }
 
-// Whether the bytes from `from` on are all zero: they are added up, with no test in between.
+// Whether the bytes from `from` on are all zero: they are joined bit by bit, with no test in between.
 fn blank_from(s: &[u8], from: usize) -> bool
-    requires { ⌜ length (now s) ≡ logSize ⌝ }
     ensures { λ r. ⌜ r ≡ allZero (drop from (now (s .entry))) ⌝ }
 {
-    let mut sum: u64 = 0;
+    let mut any: u8 = 0;
     let mut i = from;
     while i < s.len() {
-        sum += wide(s[i]);
+        any = any | s[i];
         i += 1;
     }
-    sum == 0
+    any == 0
 }
 
 pub fn count_wrong(n: u8) -> bool
@@ -96,12 +92,10 @@ fn read_rows(s: &[u8], n: u8) -> LogRead
         count: n,
         rows: [no_row(); ROW_LIMIT],
     };
-    let mut c = Cursor { at: 8 };
     let mut i: usize = 0;
     let end = n as usize;
     while i < end {
-        let taken = take_row(s, c);
-        let row = taken.row;
+        let row = read_row(s, 1 + i * ROW_SIZE);
         let f = row_field(row);
         if 0 < f {
             return no_log(Refusal {
@@ -111,7 +105,6 @@ fn read_rows(s: &[u8], n: u8) -> LogRead
             });
         }
         log.rows[i] = row;
-        c = taken.next;
         i += 1;
     }
     let passed = refuse(0);

@@ -20,7 +20,8 @@ use Rattle.logs.specs.Rows.{filled, rowsRead}
 use Rattle.packing.proofs.PackLaws.{places-length}
 use Rattle.packing.proofs.PassLaws.{fit-parts, zero-fit, passed-fit}
 use Rattle.packing.proofs.PlacesTrip.{rows-shift, rows-take, places-there, places-back, places-drop, places-zero}
-use Rattle.replies.proofs.PassLaws.{first-passes, when-passes, right-long}
+use Rattle.rules.proofs.RefusalLaws.{first-off, when-off}
+use Rattle.replies.proofs.PassLaws.{right-long}
 use Rattle.replies.proofs.TestLaws.{either-false, neg-false}
 
 -- the bytes of a log, whose places are read again
@@ -54,9 +55,9 @@ pub log-packed-read : (l : Log) (s : List ℕ) → length (l .rows) ≡ rowLimit
 unfolding packLogCheck unusedFields
 log-packed-read l s e h =
     let used = take (l .count) (l .rows) in
-    let k = first-passes (when (longOther logSize s) 1) (first (when (unusedFields l) 2) (firstWrong 1 used)) h in
-    let u = first-passes (when (unusedFields l) 2) (firstWrong 1 used) (k .1) in
-    let n = either-false (countWrong (l .count)) (neg (rowsZero (drop (l .count) (take rowLimit (l .rows))))) (when-passes (unusedFields l) 2 refl (u .0)) in
+    let k = first-off (when (longOther logSize s) 1) (first (when (unusedFields l) 2) (firstWrong 1 used)) h in
+    let u = first-off (when (unusedFields l) 2) (firstWrong 1 used) (k .1) in
+    let n = either-false (countWrong (l .count)) (neg (rowsZero (drop (l .count) (take rowLimit (l .rows))))) (when-off 1 (unusedFields l) (u .0)) in
     let all : take rowLimit (l .rows) ≡ l .rows = take-all rowLimit (l .rows) (omega arith) in
     let z : rowsZero (drop (l .count) (l .rows)) ≡ true = ap (λ (t : List Row). rowsZero (drop (l .count) t)) (sym all) ∙ neg-false _ (n .1) in
     let p = passed-fit 1 used (u .1) in
@@ -79,5 +80,5 @@ log-back (x ∷ t) h b =
 pub log-read-packed : (s : List ℕ) → Bytes s → refuses (readLog s .refusal) ≡ false → logBytes (readLog s .log) ≡ s
 unfolding readLog
 log-read-packed s b h =
-    let k = first-passes (when (longOther logSize s) 1) (fieldChecks s) h in
+    let k = first-off (when (longOther logSize s) 1) (fieldChecks s) h in
     rw h (log-back s (right-long logSize s (k .0)) b)

@@ -9,7 +9,8 @@ use Rattle.rules.specs.declared.Pile.{Pile}
 use Rattle.rules.specs.Base.{pick, neg, within, nothing, refuses, first, when}
 use Rattle.rules.specs.Checks.{aRight, bRight, wrongPart, sectionCheck, pileChecks}
 use Rattle.piles.specs.Fits.{PileFits}
-use Rattle.replies.proofs.PassLaws.{first-passes, when-passes, within-high}
+use Rattle.rules.proofs.RefusalLaws.{first-off, when-off}
+use Rattle.replies.proofs.PassLaws.{within-high}
 use Rattle.replies.proofs.TestLaws.{neg-false}
 
 -- the four tests of a pile record's section
@@ -50,9 +51,9 @@ nothing-first n = refl
 pub pile-passes : (p : Pile) → refuses (pileChecks p) ≡ false → p .head < 65536 → p .tip < 65536 → PileFits p × (pileChecks p ≡ nothing)
 unfolding pileChecks wrongPart
 pile-passes p h i j =
-    let k = first-passes (sectionCheck p) (when (neg (within 1 3 (p .method))) 6) h in
+    let k = first-off (sectionCheck p) (when (neg (within 1 3 (p .method))) 6) h in
     let s = section-passed p (k .0) in
-    let m = when-passes (neg (within 1 3 (p .method))) 6 refl (k .1) in
+    let m = when-off 5 (neg (within 1 3 (p .method))) (k .1) in
     let q = four (within 1 2 (p .section)) (aRight p) (bRight p) (eqb (p .zero) 0) (s .0) in (
       record {
         section-fits = omega (arith, within-high 1 2 (p .section) (q .0));

@@ -1,10 +1,10 @@
 -- A pile record: its fields in a row, its checks, and its reading.
-use mathlib.Core.Path.{_≡_, refl, ap, _∙_}
+use mathlib.Core.Path.{_≡_, refl, ap, sym, _∙_}
 use mathlib.Core.List.{List}
-use Prim.Native.Nat.{ℕ, _+_, _<_, _≤_}
+use Prim.Native.Nat.{ℕ, _+_, _*_, _/_, _%_, _<_, _≤_}
 use native.Mathlib.Omega.{arith}
 use borrow.Author.Tests.{lt-ltb, le-ltb, eq-eqb, ne-eqb}
-use lib.ListN.{length}
+use lib.ListN.{length, getD}
 use lib.Seq.{paste}
 use Rattle.rules.specs.declared.Pile.{Pile}
 use Rattle.rules.specs.declared.PileRead.{PileRead}
@@ -13,21 +13,80 @@ use Rattle.rules.specs.Base.{refuse, first, when}
 use Rattle.rules.specs.Limits.{pileSize}
 use Rattle.rules.specs.Packed.{bitsAt, pileOf, pileBytes}
 use Rattle.rules.specs.Checks.{wrongPart, sectionCheck, pileChecks}
+use Rattle.bits.specs.Fits.{Bytes}
+use Rattle.bits.specs.Word.{fieldOf, wordOf, Taken}
 use Rattle.rules.specs.Reading.{noPile, readPile, packPileCheck, packedPile}
 use Rattle.bits.proofs.CopyLaws.{paste-over}
 
+-- the fields that eight bytes hold
+abbrev pub pileHeld : ℕ → ℕ → ℕ → ℕ → ℕ → ℕ → ℕ → ℕ → Pile
+pileHeld a b c d e f g h = record {
+  section = a / 64;
+  a = a % 64 * 64 + b / 4;
+  b = b % 4 * 1024 + c * 4 + d / 64;
+  method = d / 16 % 4;
+  head = d % 16 * 4096 + e * 16 + f / 16;
+  tip = f % 16 * 4096 + g * 16 + h / 16;
+  zero = h % 16;
+}
+
+-- sixteen bits that begin with the fifth of a byte
+middle : (d e f g : ℕ) → e < 256 → f < 256 → g < 256 → (((d * 256 + e) * 256 + f) * 256 + g) / 4096 % 65536 ≡ d % 16 * 4096 + e * 16 + f / 16
+middle d e f g he hf hg =
+    let q : (((d * 256 + e) * 256 + f) * 256 + g) / 4096 ≡ (d * 256 + e) * 16 + f / 16 = omega arith in
+    let r : ((d * 256 + e) * 16 + f / 16) % 65536 ≡ d % 16 * 4096 + e * 16 + f / 16 = omega arith in
+    rw (q, r)
+
+-- as the windows of four bytes give them
+pub window-pile : (s : List ℕ) → Bytes s
+    → pileOf s ≡ pileHeld (getD s 0 0) (getD s 1 0) (getD s 2 0) (getD s 3 0) (getD s 4 0) (getD s 5 0) (getD s 6 0) (getD s 7 0)
+unfolding pileOf bitsAt
+window-pile s k =
+    let p = window-fields (getD s 0 0) (getD s 1 0) (getD s 2 0) (getD s 3 0) (getD s 4 0) (getD s 5 0) (getD s 6 0) (getD s 7 0) (getD s 8 0) (getD s 9 0) (getD s 10 0) (k 0) (k 1)
+    (k 2) (k 3) (k 4) (k 5) (k 6) (k 7) (k 8) (k 9) (k 10) in
+    simp (p .0, p .1, p .2, p .3, middle (getD s 3 0) (getD s 4 0) (getD s 5 0) (getD s 6 0) (k 4) (k 5) (k 6), middle (getD s 5 0) (getD s 6 0) (getD s 7 0) (getD s 8 0) (k 6) (k 7) (k 8), p .4)
+  where
+    window-fields : (a b c d e f g h i j l : ℕ) → a < 256 → b < 256 → c < 256 → d < 256 → e < 256 → f < 256 → g < 256 → h < 256 → i < 256 → j < 256 → l < 256
+        → ((((a * 256 + b) * 256 + c) * 256 + d) / 1073741824 % 4 ≡ a / 64) × ((((a * 256 + b) * 256 + c) * 256 + d) / 262144 % 4096 ≡ a % 64 * 64 + b / 4)
+        × ((((b * 256 + c) * 256 + d) * 256 + e) / 16384 % 4096 ≡ b % 4 * 1024 + c * 4 + d / 64) × ((((d * 256 + e) * 256 + f) * 256 + g) / 268435456 % 4 ≡ d / 16 % 4)
+        × ((((h * 256 + i) * 256 + j) * 256 + l) / 16777216 % 16 ≡ h % 16)
+    window-fields a b c d e f g h i j l ha hb hc hd he hf hg hh hi hj hl = (omega arith, omega arith, omega arith, omega arith, omega arith)
+
+-- as the word of all eight does
+word-fields : (a b c d e f g h : ℕ) → a < 256 → b < 256 → c < 256 → d < 256 → e < 256 → f < 256 → g < 256 → h < 256
+    → let w = ((((((a * 256 + b) * 256 + c) * 256 + d) * 256 + e) * 256 + f) * 256 + g) * 256 + h in
+    (fieldOf w 0 2 ≡ a / 64) × (fieldOf w 2 12 ≡ a % 64 * 64 + b / 4) × (fieldOf w 14 12 ≡ b % 4 * 1024 + c * 4 + d / 64) × (fieldOf w 26 2 ≡ d / 16 % 4)
+    × (fieldOf w 28 16 ≡ d % 16 * 4096 + e * 16 + f / 16) × (fieldOf w 44 16 ≡ f % 16 * 4096 + g * 16 + h / 16) × (fieldOf w 60 4 ≡ h % 16)
+unfolding fieldOf
+word-fields a b c d e f g h ha hb hc hd he hf hg hh = (omega arith, omega arith, omega arith, omega arith, omega arith, omega arith, omega arith)
+
+word-pile : (s : List ℕ) → Bytes s
+    → _≡_ {A = Pile}
+    (record {
+      section = fieldOf (wordOf s) 0 2;
+      a = fieldOf (wordOf s) 2 12;
+      b = fieldOf (wordOf s) 14 12;
+      method = fieldOf (wordOf s) 26 2;
+      head = fieldOf (wordOf s) 28 16;
+      tip = fieldOf (wordOf s) 44 16;
+      zero = fieldOf (wordOf s) 60 4;
+    })
+    (pileOf s)
+word-pile s k =
+    let p = word-fields (getD s 0 0) (getD s 1 0) (getD s 2 0) (getD s 3 0) (getD s 4 0) (getD s 5 0) (getD s 6 0) (getD s 7 0) (k 0) (k 1) (k 2) (k 3) (k 4) (k 5) (k 6) (k 7) in
+    simp (p .0, p .1, p .2, p .3, p .4, p .5, p .6) (sym (window-pile s k))
+
 -- seven fields, each taken where the one before ended
-pub pile-fields : (s : List ℕ) (a p b q c r d t e u f v g : ℕ) → a ≡ bitsAt s 0 2 → p ≡ 0 + 2 → b ≡ bitsAt s p 12 → q ≡ p + 12 → c ≡ bitsAt s q 12 → r ≡ q + 12
-    → d ≡ bitsAt s r 2 → t ≡ r + 2 → e ≡ bitsAt s t 16 → u ≡ t + 16 → f ≡ bitsAt s u 16 → v ≡ u + 16 → g ≡ bitsAt s v 4
+pub pile-taken : (s : List ℕ) → Bytes s → {w a x₁ p₁ b x₂ p₂ c x₃ p₃ d x₄ p₄ e x₅ p₅ f x₆ p₆ g x₇ p₇ : ℕ} → w ≡ wordOf s → Taken w 0 2 a x₁ p₁ → Taken x₁ p₁ 12 b x₂ p₂
+    → Taken x₂ p₂ 12 c x₃ p₃ → Taken x₃ p₃ 2 d x₄ p₄ → Taken x₄ p₄ 16 e x₅ p₅ → Taken x₅ p₅ 16 f x₆ p₆ → Taken x₆ p₆ 4 g x₇ p₇
     → _≡_ {A = Pile} (record { section = a; a = b; b = c; method = d; head = e; tip = f; zero = g }) (pileOf s)
-unfolding pileOf
-pile-fields s a p b q c r d t e u f v g a′ p′ b′ q′ c′ r′ d′ t′ e′ u′ f′ v′ g′ =
-    let q″ : q ≡ 14 = omega arith in
-    let r″ : r ≡ 26 = omega arith in
-    let t″ : t ≡ 28 = omega arith in
-    let u″ : u ≡ 44 = omega arith in
-    let v″ : v ≡ 60 = omega arith in
-    cc
+pile-taken s k {p₂ = p₂} {p₃ = p₃} {p₄ = p₄} {p₅ = p₅} {p₆ = p₆} h i j l m n o q =
+    let p₂″ : p₂ ≡ 14 = omega arith in
+    let p₃″ : p₃ ≡ 26 = omega arith in
+    let p₄″ : p₄ ≡ 28 = omega arith in
+    let p₅″ : p₅ ≡ 44 = omega arith in
+    let p₆″ : p₆ ≡ 60 = omega arith in
+    cc (word-pile s k)
 
 pub section-wrong : (p : Pile) (f : ℕ) → f ≡ wrongPart p → 0 < f → _≡_ {A = Refusal} (record { number = 5; row = 0; field = f }) (sectionCheck p)
 unfolding sectionCheck

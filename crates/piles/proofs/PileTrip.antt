@@ -4,8 +4,10 @@ use mathlib.Core.List.{List, [], _∷_}
 use Prim.Native.Nat.{ℕ, _+_, _*_, _/_, _%_, _<_}
 use native.Mathlib.Omega.{arith}
 use Rattle.rules.specs.declared.Pile.{Pile}
-use Rattle.rules.specs.Packed.{bitsAt, pileOf, pileNumber, pileBytes}
+use Rattle.rules.specs.Packed.{pileOf, pileNumber, pileBytes}
+use Rattle.bits.proofs.BitLaws.{byte-more, no-bytes}
 use Rattle.piles.specs.Fits.{PileFits}
+use Rattle.piles.proofs.PileLaws.{pileHeld, window-pile}
 
 -- which bits of its fields each byte holds
 abbrev pileSpread : Pile → List ℕ
@@ -37,35 +39,20 @@ pile-spread p f =
     let b₇ : n % 256 ≡ p .tip % 16 * 16 + p .zero = omega (arith, f .zero-fits) in
     rw (d₁, d₂, d₃, d₄, d₅, d₆, d₇, b₀, b₁, b₂, b₃, b₄, b₅, b₆, b₇)
 
--- the fields that eight bytes hold
-abbrev pileHeld : ℕ → ℕ → ℕ → ℕ → ℕ → ℕ → ℕ → ℕ → Pile
-pileHeld a b c d e f g h = record {
-  section = a / 64;
-  a = a % 64 * 64 + b / 4;
-  b = b % 4 * 1024 + c * 4 + d / 64;
-  method = d / 16 % 4;
-  head = d % 16 * 4096 + e * 16 + f / 16;
-  tip = f % 16 * 4096 + g * 16 + h / 16;
-  zero = h % 16;
-}
-
--- sixteen bits that begin with the fifth of a byte
-middle : (d e f g : ℕ) → e < 256 → f < 256 → g < 256 → (((d * 256 + e) * 256 + f) * 256 + g) / 4096 % 65536 ≡ d % 16 * 4096 + e * 16 + f / 16
-middle d e f g he hf hg =
-    let q : (((d * 256 + e) * 256 + f) * 256 + g) / 4096 ≡ (d * 256 + e) * 16 + f / 16 = omega arith in
-    let r : ((d * 256 + e) * 16 + f / 16) % 65536 ≡ d % 16 * 4096 + e * 16 + f / 16 = omega arith in
-    rw (q, r)
-
 pile-held : (a b c d e f g h : ℕ) → a < 256 → b < 256 → c < 256 → d < 256 → e < 256 → f < 256 → g < 256 → h < 256
     → pileOf (a ∷ b ∷ c ∷ d ∷ e ∷ f ∷ g ∷ h ∷ []) ≡ pileHeld a b c d e f g h
-unfolding pileOf bitsAt
 pile-held a b c d e f g h ha hb hc hd he hf hg hh =
-    let s : (((a * 256 + b) * 256 + c) * 256 + d) / 1073741824 % 4 ≡ a / 64 = omega arith in
-    let t : (((a * 256 + b) * 256 + c) * 256 + d) / 262144 % 4096 ≡ a % 64 * 64 + b / 4 = omega arith in
-    let u : (((b * 256 + c) * 256 + d) * 256 + e) / 16384 % 4096 ≡ b % 4 * 1024 + c * 4 + d / 64 = omega arith in
-    let v : (((d * 256 + e) * 256 + f) * 256 + g) / 268435456 % 4 ≡ d / 16 % 4 = omega arith in
-    let y : (((h * 256 + 0) * 256 + 0) * 256 + 0) / 16777216 % 16 ≡ h % 16 = omega arith in
-    simp (s, t, u, v, middle d e f g he hf hg, middle f g h 0 hg hh (omega arith), y)
+    let s₇ = h ∷ [] in
+    let s₆ = g ∷ s₇ in
+    let s₅ = f ∷ s₆ in
+    let s₄ = e ∷ s₅ in
+    let s₃ = d ∷ s₄ in
+    let s₂ = c ∷ s₃ in
+    let s₁ = b ∷ s₂ in
+    window-pile (a ∷ s₁)
+    (byte-more a s₁ ha
+    (byte-more b s₂ hb
+    (byte-more c s₃ hc (byte-more d s₄ hd (byte-more e s₅ he (byte-more f s₆ hf (byte-more g s₇ hg (byte-more h [] hh no-bytes))))))))
 
 -- the pile record that was packed is read
 pub pile-there : (p : Pile) → PileFits p → pileOf (pileBytes p) ≡ p

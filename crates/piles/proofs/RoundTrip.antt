@@ -16,7 +16,8 @@ use Rattle.bits.specs.Fits.{Bytes}
 use Rattle.piles.proofs.PassLaws.{pile-passes}
 use Rattle.piles.proofs.PileLaws.{pile-eight}
 use Rattle.piles.proofs.PileTrip.{pile-there, pile-back}
-use Rattle.replies.proofs.PassLaws.{first-passes, right-long}
+use Rattle.rules.proofs.RefusalLaws.{first-off}
+use Rattle.replies.proofs.PassLaws.{right-long}
 
 fields-back : (s : List ℕ) → length s ≡ pileSize → Bytes s → pileBytes (pileOf s) ≡ s
 fields-back s h b =
@@ -28,11 +29,11 @@ pub pile-packed-read : (p : Pile) (s : List ℕ) → p .head < 65536 → p .tip 
     → readPile (pileBytes p) ≡ record { refusal = nothing; pile = p }
 unfolding packPileCheck readPile first when
 pile-packed-read p s i j h =
-    let k = pile-passes p (first-passes (when (longOther pileSize s) 1) (pileChecks p) h .1) i j in
+    let k = pile-passes p (first-off (when (longOther pileSize s) 1) (pileChecks p) h .1) i j in
     rw (eq-eqb _ _ (pile-eight p), pile-there p (k .0), k .1)
 
 pub pile-read-packed : (s : List ℕ) → Bytes s → refuses (readPile s .refusal) ≡ false → pileBytes (readPile s .pile) ≡ s
 unfolding readPile
 pile-read-packed s b h =
-    let k = first-passes (when (longOther pileSize s) 1) (pileChecks (pileOf s)) h in
+    let k = first-off (when (longOther pileSize s) 1) (pileChecks (pileOf s)) h in
     rw h (fields-back s (right-long pileSize s (k .0)) b)

@@ -1,8 +1,10 @@
 // A pile record: its seven fields, their ranges, and its eight bytes.
 use bits::Cursor;
+use bits::bytes_of;
 use bits::copy_in;
 use bits::put_bits;
 use bits::take_bits;
+use bits::word_of;
 use replies::first;
 use replies::in_range;
 use replies::refuse;
@@ -21,13 +23,17 @@ const PILE_SIZE: usize = 8;
 fn take_pile(s: &[u8]) -> Pile
     ensures { λ r. ⌜ r ≡ pileOf (now (s .entry)) ⌝ }
 {
-    let section = take_bits(s, Cursor { at: 0 }, 2);
-    let a = take_bits(s, section.next, 12);
-    let b = take_bits(s, a.next, 12);
-    let method = take_bits(s, b.next, 2);
-    let head = take_bits(s, method.next, 16);
-    let tip = take_bits(s, head.next, 16);
-    let zero = take_bits(s, tip.next, 4);
+    let start = Cursor {
+        word: word_of(s),
+        at: 0,
+    };
+    let section = take_bits(start, 2);
+    let a = take_bits(section.next, 12);
+    let b = take_bits(a.next, 12);
+    let method = take_bits(b.next, 2);
+    let head = take_bits(method.next, 16);
+    let tip = take_bits(head.next, 16);
+    let zero = take_bits(tip.next, 4);
     Pile {
         section: section.value as u8,
         a: a.value as u16,
@@ -150,20 +156,15 @@ pub fn read_pile(s: &[u8]) -> PileRead
 fn pile_bytes(p: Pile) -> [u8; 8]
     ensures { λ b. ⌜ b ≡ pileBytes p ⌝ }
 {
-    let section = put_bits([0; 8], Cursor { at: 0 }, p.section as u64, 2);
-    let a = section.bytes;
-    let first = put_bits(a, section.next, p.a as u64, 12);
-    let a = first.bytes;
-    let second = put_bits(a, first.next, p.b as u64, 12);
-    let a = second.bytes;
-    let method = put_bits(a, second.next, p.method as u64, 2);
-    let a = method.bytes;
-    let head = put_bits(a, method.next, p.head as u64, 16);
-    let a = head.bytes;
-    let tip = put_bits(a, head.next, p.tip as u64, 16);
-    let a = tip.bytes;
-    let zero = put_bits(a, tip.next, p.zero as u64, 4);
-    zero.bytes
+    let start = Cursor { word: 0, at: 0 };
+    let section = put_bits(start, p.section as u64, 2);
+    let a = put_bits(section, p.a as u64, 12);
+    let b = put_bits(a, p.b as u64, 12);
+    let method = put_bits(b, p.method as u64, 2);
+    let head = put_bits(method, p.head as u64, 16);
+    let tip = put_bits(head, p.tip as u64, 16);
+    let zero = put_bits(tip, p.zero as u64, 4);
+    bytes_of(zero.word)
 }
 
 // A refused packing changes no byte.

@@ -2,14 +2,14 @@
 use mathlib.Core.Path.{_≡_, refl}
 use mathlib.Core.Bool.{Bool, true, false}
 use Rattle.rules.specs.Base.{both, either, neg}
+use Rattle.rules.proofs.Basics.{both-left, both-right}
+use Rattle.rules.proofs.RefusalLaws.{either-left, either-right}
 
 pub both-true : (a b : Bool) → both a b ≡ true → (a ≡ true) × (b ≡ true)
-both-true true b h = (refl, h)
-both-true false b h = (h, cc)
+both-true a b h = (both-left a b h, both-right a b h)
 
 pub either-false : (a b : Bool) → either a b ≡ false → (a ≡ false) × (b ≡ false)
-either-false true b h = (h, cc)
-either-false false b h = (refl, h)
+either-false a b h = (either-left a b h, either-right a b h)
 
 pub neg-true : (t : Bool) → neg t ≡ true → t ≡ false
 neg-true true h = cc

@@ -1,11 +1,13 @@
 -- A row of a list of bytes: that of a part, that of zero bytes, and its fields in a row.
-use mathlib.Core.Path.{_≡_}
+use mathlib.Core.Path.{_≡_, sym}
 use mathlib.Core.List.{List}
-use Prim.Native.Nat.{ℕ, _+_, _*_, _≤_}
+use Prim.Native.Nat.{ℕ, _+_, _*_, _/_, _%_, _<_, _≤_}
 use native.Mathlib.Omega.{arith}
-use lib.ListN.{drop}
+use lib.ListN.{getD, drop}
 use Rattle.rules.specs.declared.Row.{Row}
 use Rattle.rules.specs.Packed.{bitsAt, rowAt, noRow}
+use Rattle.bits.specs.Fits.{Bytes}
+use Rattle.bits.specs.Word.{fieldOf, fiveOf, Taken}
 use Rattle.bits.proofs.BitLaws.{bits-part, Blank, bits-blank}
 
 pub row-shift : (s : List ℕ) (i at k : ℕ) → k ≡ i * 8 + at → rowAt (drop i s) at ≡ rowAt s k
@@ -31,8 +33,45 @@ row-blank s i at b h =
       bits-blank s i (at + 16 + 3 + 8 + 7) 6 b (omega arith),
     )
 
+-- the fields that five bytes hold
+abbrev pub rowHeld : ℕ → ℕ → ℕ → ℕ → ℕ → Row
+rowHeld a b c d e = record { thickness = a * 256 + b; kind = c / 32; index = c % 32 * 8 + d / 32; saturation = d % 32 * 4 + e / 64; zero = e % 64 }
+
+-- as the windows of four bytes give them
+pub window-row : (s : List ℕ) → Bytes s → rowAt s 0 ≡ rowHeld (getD s 0 0) (getD s 1 0) (getD s 2 0) (getD s 3 0) (getD s 4 0)
+unfolding bitsAt
+window-row s k =
+    let p = window-fields (getD s 0 0) (getD s 1 0) (getD s 2 0) (getD s 3 0) (getD s 4 0) (getD s 5 0) (getD s 6 0) (getD s 7 0) (k 0) (k 1) (k 2) (k 3) (k 4) (k 5) (k 6) (k 7) in
+    simp (p .0, p .1, p .2, p .3, p .4)
+  where
+    window-fields : (a b c d e f g h : ℕ) → a < 256 → b < 256 → c < 256 → d < 256 → e < 256 → f < 256 → g < 256 → h < 256
+        → ((((a * 256 + b) * 256 + c) * 256 + d) / 65536 % 65536 ≡ a * 256 + b) × ((((c * 256 + d) * 256 + e) * 256 + f) / 536870912 % 8 ≡ c / 32)
+        × ((((c * 256 + d) * 256 + e) * 256 + f) / 2097152 % 256 ≡ c % 32 * 8 + d / 32) × ((((d * 256 + e) * 256 + f) * 256 + g) / 4194304 % 128 ≡ d % 32 * 4 + e / 64)
+        × ((((e * 256 + f) * 256 + g) * 256 + h) / 16777216 % 64 ≡ e % 64)
+    window-fields a b c d e f g h ha hb hc hd he hf hg hh = (omega arith, omega arith, omega arith, omega arith, omega arith)
+
+-- as the number of all five does
+word-fields : (a b c d e : ℕ) → a < 256 → b < 256 → c < 256 → d < 256 → e < 256
+    → let w = a * 4294967296 + (((b * 256 + c) * 256 + d) * 256 + e) in
+    (fieldOf w 24 16 ≡ a * 256 + b) × (fieldOf w 40 3 ≡ c / 32) × (fieldOf w 43 8 ≡ c % 32 * 8 + d / 32) × (fieldOf w 51 7 ≡ d % 32 * 4 + e / 64) × (fieldOf w 58 6 ≡ e % 64)
+unfolding fieldOf
+word-fields a b c d e ha hb hc hd he = (omega arith, omega arith, omega arith, omega arith, omega arith)
+
+word-row : (s : List ℕ) → Bytes s
+    → _≡_ {A = Row}
+    (record {
+      thickness = fieldOf (fiveOf s) 24 16;
+      kind = fieldOf (fiveOf s) 40 3;
+      index = fieldOf (fiveOf s) 43 8;
+      saturation = fieldOf (fiveOf s) 51 7;
+      zero = fieldOf (fiveOf s) 58 6;
+    })
+    (rowAt s 0)
+word-row s k =
+    let p = word-fields (getD s 0 0) (getD s 1 0) (getD s 2 0) (getD s 3 0) (getD s 4 0) (k 0) (k 1) (k 2) (k 3) (k 4) in
+    simp (p .0, p .1, p .2, p .3, p .4) (sym (window-row s k))
+
 -- five fields, each taken where the one before ended
-pub row-fields : (s : List ℕ) (at a p b q c r d t e : ℕ) → a ≡ bitsAt s at 16 → p ≡ at + 16 → b ≡ bitsAt s p 3 → q ≡ p + 3 → c ≡ bitsAt s q 8 → r ≡ q + 8
-    → d ≡ bitsAt s r 7 → t ≡ r + 7 → e ≡ bitsAt s t 6
-    → _≡_ {A = Row} (record { thickness = a; kind = b; index = c; saturation = d; zero = e }) (rowAt s at)
-row-fields s at a p b q c r d t e a′ p′ b′ q′ c′ r′ d′ t′ e′ = cc
+pub row-taken : (s : List ℕ) → Bytes s → {w a x p b y q c z r d u t e v o : ℕ} → w ≡ fiveOf s → Taken w 24 16 a x p → Taken x p 3 b y q → Taken y q 8 c z r → Taken z r 7 d u t
+    → Taken u t 6 e v o → _≡_ {A = Row} (record { thickness = a; kind = b; index = c; saturation = d; zero = e }) (rowAt s 0)
+row-taken s k g h i j l m = cc (word-row s k)

@@ -1,15 +1,16 @@
 -- A row and its five bytes, each from the other.
 use mathlib.Core.Path.{_≡_, ap, _∙_, sym, subst}
 use mathlib.Core.List.{List, [], _∷_, _++_, append-nil}
-use Prim.Native.Nat.{ℕ, zero, _+_, _*_, _/_, _%_, _<_}
+use Prim.Native.Nat.{ℕ, _+_, _*_, _/_, _%_, _<_}
 use native.Mathlib.Omega.{arith}
-use lib.ListN.{getD, length}
+use lib.ListN.{length}
 use Rattle.rules.specs.declared.Row.{Row}
-use Rattle.rules.specs.Packed.{bitsAt, rowAt, rowNumber, rowBytes}
-use Rattle.bits.proofs.BitLaws.{no-bytes}
+use Rattle.rules.specs.Packed.{rowAt, rowNumber, rowBytes}
+use Rattle.bits.proofs.BitLaws.{byte-more, no-bytes}
 use Rattle.bits.proofs.Heads.{whole}
 use Rattle.bits.specs.Fits.{Bytes}
 use Rattle.rows.specs.Fits.{RowFits}
+use Rattle.rows.proofs.RowLaws.{rowHeld, window-row}
 use Rattle.rules.specs.Limits.{rowSize}
 
 -- which bits of its fields each byte holds
@@ -29,25 +30,13 @@ row-spread r f =
     let o : r .thickness / 256 % 256 ≡ r .thickness / 256 = omega (arith, f .thickness-fits) in
     rw (a, b, c, k, m, n, o)
 
--- the fields that five bytes hold
-abbrev rowHeld : ℕ → ℕ → ℕ → ℕ → ℕ → Row
-rowHeld a b c d e = record { thickness = a * 256 + b; kind = c / 32; index = c % 32 * 8 + d / 32; saturation = d % 32 * 4 + e / 64; zero = e % 64 }
-
 row-held : (a b c d e : ℕ) (s : List ℕ) → a < 256 → b < 256 → c < 256 → d < 256 → e < 256 → Bytes s → rowAt (a ∷ b ∷ c ∷ d ∷ e ∷ s) 0 ≡ rowHeld a b c d e
-unfolding bitsAt
 row-held a b c d e s ha hb hc hd he hs =
-    let f = getD s 0 0 in
-    let g = getD s 1 0 in
-    let h = getD s 2 0 in
-    let hf : f < 256 = hs 0 in
-    let hg : g < 256 = hs 1 in
-    let hh : h < 256 = hs 2 in
-    let t : (((a * 256 + b) * 256 + c) * 256 + d) / 65536 % 65536 ≡ a * 256 + b = omega arith in
-    let k : (((c * 256 + d) * 256 + e) * 256 + f) / 536870912 % 8 ≡ c / 32 = omega arith in
-    let i : (((c * 256 + d) * 256 + e) * 256 + f) / 2097152 % 256 ≡ c % 32 * 8 + d / 32 = omega arith in
-    let r : (((d * 256 + e) * 256 + f) * 256 + g) / 4194304 % 128 ≡ d % 32 * 4 + e / 64 = omega arith in
-    let z : (((e * 256 + f) * 256 + g) * 256 + h) / 16777216 % 64 ≡ e % 64 = omega arith in
-    simp (t, k, i, r, z)
+    let s₄ = e ∷ s in
+    let s₃ = d ∷ s₄ in
+    let s₂ = c ∷ s₃ in
+    let s₁ = b ∷ s₂ in
+    window-row (a ∷ s₁) (byte-more a s₁ ha (byte-more b s₂ hb (byte-more c s₃ hc (byte-more d s₄ hd (byte-more e s he hs)))))
 
 -- the row that was packed is read, whatever bytes follow
 pub row-there : (r : Row) (s : List ℕ) → RowFits r → Bytes s → rowAt (rowBytes r ++ s) 0 ≡ r

@@ -1,44 +1,41 @@
 // A row of a log: its five fields, their ranges, and its five bytes.
 use bits::Cursor;
+use bits::bytes_of;
+use bits::five_of;
 use bits::put_bits;
 use bits::take_bits;
 use replies::in_range;
 use rules::Row;
 ghost use mathlib.Core.Path.{_≡_};
-ghost use Prim.Native.Nat.{_+_, _*_, _^_, _<_};
+ghost use Prim.Native.Nat.{_*_};
 ghost use Rattle.rules.specs.Packed.{rowAt, noRow, rowBytes};
 ghost use Rattle.rules.specs.Checks.{indexRight, wrongField};
 ghost use Rattle.rules.specs.Reading.{rowZero};
 
 const DEPTH_LIMIT: u16 = 60000;
 
-// A row, and the cursor behind it.
-pub struct RowTaken {
-    pub row: Row,
-    pub next: Cursor,
-}
+// Where the five bytes of a row begin in a word.
+const ROW_START: usize = 24;
 
-// The row at the cursor.
-pub fn take_row(s: &[u8], c: Cursor) -> RowTaken
-    requires { ⌜ c .at < 2 ^ 31 ⌝ }
-    ensures { λ r. ⌜ (r .row ≡ rowAt (now (s .entry)) (c .at)) × (r .next .at ≡ c .at + 40) ⌝ }
+// The row that begins with the first byte.
+fn take_row(s: &[u8]) -> Row
+    ensures { λ r. ⌜ r ≡ rowAt (now (s .entry)) 0 ⌝ }
 {
-    let thickness = take_bits(s, c, 16);
-    let kind = take_bits(s, thickness.next, 3);
-    let index = take_bits(s, kind.next, 8);
-    let saturation = take_bits(s, index.next, 7);
-    let zero = take_bits(s, saturation.next, 6);
-    let row = Row {
+    let start = Cursor {
+        word: five_of(s),
+        at: ROW_START,
+    };
+    let thickness = take_bits(start, 16);
+    let kind = take_bits(thickness.next, 3);
+    let index = take_bits(kind.next, 8);
+    let saturation = take_bits(index.next, 7);
+    let zero = take_bits(saturation.next, 6);
+    Row {
         thickness: thickness.value as u16,
         kind: kind.value as u8,
         index: index.value as u8,
         saturation: saturation.value as u8,
         zero: zero.value as u8,
-    };
-    let next = zero.next;
-    RowTaken {
-        row: row,
-        next: next,
     }
 }
 
@@ -61,8 +58,7 @@ pub fn read_row(s: &[u8], i: usize) -> Row
     if i >= s.len() {
         return no_row();
     }
-    let taken = take_row(&s[i..], Cursor { at: 0 });
-    taken.row
+    take_row(&s[i..])
 }
 
 fn index_right(kind: u8, index: u8) -> bool
@@ -120,15 +116,15 @@ pub fn row_field(r: Row) -> u32
 pub fn row_bytes(r: Row) -> [u8; 5]
     ensures { λ b. ⌜ b ≡ rowBytes r ⌝ }
 {
-    let thickness = put_bits([0; 8], Cursor { at: 0 }, r.thickness as u64, 16);
-    let a = thickness.bytes;
-    let kind = put_bits(a, thickness.next, r.kind as u64, 3);
-    let a = kind.bytes;
-    let index = put_bits(a, kind.next, r.index as u64, 8);
-    let a = index.bytes;
-    let saturation = put_bits(a, index.next, r.saturation as u64, 7);
-    let a = saturation.bytes;
-    let zero = put_bits(a, saturation.next, r.zero as u64, 6);
-    let a = zero.bytes;
-    [a[0], a[1], a[2], a[3], a[4]]
+    let start = Cursor {
+        word: 0,
+        at: ROW_START,
+    };
+    let thickness = put_bits(start, r.thickness as u64, 16);
+    let kind = put_bits(thickness, r.kind as u64, 3);
+    let index = put_bits(kind, r.index as u64, 8);
+    let saturation = put_bits(index, r.saturation as u64, 7);
+    let zero = put_bits(saturation, r.zero as u64, 6);
+    let b = bytes_of(zero.word);
+    [b[3], b[4], b[5], b[6], b[7]]
 }

@@ -3,11 +3,12 @@ use mathlib.Core.Path.{_≡_, ap, _∙_}
 use mathlib.Core.List.{List, [], _∷_, _++_}
 use Prim.Native.Nat.{ℕ, _+_, _*_, _/_, _%_, _<_}
 use native.Mathlib.Omega.{arith}
-use lib.ListN.{getD}
 use Rattle.rules.specs.declared.Slice.{Slice}
-use Rattle.rules.specs.Packed.{bitsAt, sliceAt, sliceNumber, sliceBytes}
+use Rattle.rules.specs.Packed.{sliceAt, sliceNumber, sliceBytes}
 use Rattle.bits.specs.Fits.{Bytes}
+use Rattle.bits.proofs.BitLaws.{byte-more}
 use Rattle.slices.specs.Fits.{SliceFits}
+use Rattle.slices.proofs.SliceLaws.{sliceHeld, window-slice}
 
 -- which bits of its fields each byte holds
 abbrev sliceSpread : Slice → List ℕ
@@ -33,31 +34,17 @@ slice-spread c f =
     let b₆ : n % 256 ≡ c .friction % 16 * 16 + c .factor = omega (arith, f .factor-fits) in
     rw (d₁, d₂, d₃, d₄, d₅, b₀, b₂, b₃, b₄, b₅, b₆)
 
--- the fields that seven bytes hold
-abbrev sliceHeld : ℕ → ℕ → ℕ → ℕ → ℕ → ℕ → ℕ → Slice
-sliceHeld a b c d e f g = record { top = a * 256 + b; thickness = c * 8 + d / 32; friction = d % 32 * 1048576 + e * 4096 + f * 16 + g / 16; factor = g % 16 }
-
--- twenty-five bits that begin with the fourth of a byte
-middle : (d e f g : ℕ) → e < 256 → f < 256 → g < 256 → (((d * 256 + e) * 256 + f) * 256 + g) / 16 % 33554432 ≡ d % 32 * 1048576 + e * 4096 + f * 16 + g / 16
-middle d e f g he hf hg =
-    let q : (((d * 256 + e) * 256 + f) * 256 + g) / 16 ≡ ((d * 256 + e) * 256 + f) * 16 + g / 16 = omega arith in
-    let r : (((d * 256 + e) * 256 + f) * 16 + g / 16) % 33554432 ≡ d % 32 * 1048576 + e * 4096 + f * 16 + g / 16 = omega arith in
-    rw (q, r)
-
 slice-held : (a b c d e f g : ℕ) (s : List ℕ) → a < 256 → b < 256 → c < 256 → d < 256 → e < 256 → f < 256 → g < 256 → Bytes s
     → sliceAt (a ∷ b ∷ c ∷ d ∷ e ∷ f ∷ g ∷ s) 0 ≡ sliceHeld a b c d e f g
-unfolding sliceAt bitsAt
 slice-held a b c d e f g s ha hb hc hd he hf hg hs =
-    let h = getD s 0 0 in
-    let i = getD s 1 0 in
-    let j = getD s 2 0 in
-    let hh : h < 256 = hs 0 in
-    let hi : i < 256 = hs 1 in
-    let hj : j < 256 = hs 2 in
-    let t : (((a * 256 + b) * 256 + c) * 256 + d) / 65536 % 65536 ≡ a * 256 + b = omega arith in
-    let u : (((c * 256 + d) * 256 + e) * 256 + f) / 2097152 % 2048 ≡ c * 8 + d / 32 = omega arith in
-    let v : (((g * 256 + h) * 256 + i) * 256 + j) / 16777216 % 16 ≡ g % 16 = omega arith in
-    simp (t, u, middle d e f g he hf hg, v)
+    let s₆ = g ∷ s in
+    let s₅ = f ∷ s₆ in
+    let s₄ = e ∷ s₅ in
+    let s₃ = d ∷ s₄ in
+    let s₂ = c ∷ s₃ in
+    let s₁ = b ∷ s₂ in
+    window-slice (a ∷ s₁)
+    (byte-more a s₁ ha (byte-more b s₂ hb (byte-more c s₃ hc (byte-more d s₄ hd (byte-more e s₅ he (byte-more f s₆ hf (byte-more g s hg hs)))))))
 
 -- the slice that was packed is read, whatever bytes follow
 pub slice-there : (c : Slice) (s : List ℕ) → SliceFits c → Bytes s → sliceAt (sliceBytes c ++ s) 0 ≡ c

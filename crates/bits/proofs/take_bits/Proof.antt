@@ -1,20 +1,17 @@
 -- `bits::take_bits` meets its contract.
 use mathlib.Core.Path.{refl}
 use native.Mathlib.Nat.{mod-lt}
-use Rattle.rules.specs.Packed.{bitsAt}
-use borrow.Author.Needs.{needs}
+use Rattle.bits.specs.Word.{fieldOf}
 use Rattle.bits.proofs.Powers.{positive}
+use borrow.Author.Needs.{needs}
 use Rattle.bits.proofs.take_bits.Statement.{statement}
 use Rattle.bits.proofs.take_bits.Tie as tie
 
-window-at-requires : tie.Need-window-at-requires
-window-at-requires c κs = search needs
+add-at : tie.Need-add-at
+add-at c = search needs
 
 sub-v : tie.Need-sub-v
 sub-v c = search needs
-
-sub-v-2 : tie.Need-sub-v-2
-sub-v-2 c = search needs
 
 shr-v : tie.Need-shr-v
 shr-v c = search needs
@@ -25,14 +22,10 @@ pow2-requires c κs = search needs
 rem-v : tie.Need-rem-v
 rem-v c = search needs
 
-add-t7 : tie.Need-add-t7
-add-t7 c = search needs
-
 returns : tie.Need-returns
-unfolding bitsAt
+unfolding fieldOf
 returns c =
-    (rw (c .before .window-at .ensures .0, c .pow2 .ensures .0), refl, rw (c .pow2 .ensures .0) (mod-lt _ (positive (c .before .before .before .args .n))))
+    record { value = rw (c .pow2 .ensures .0); small = rw (c .pow2 .ensures .0) (mod-lt _ (positive _)); same = refl; moved = refl }
 
 pub take-bits-spec : {M : Type 1} → statement M
-take-bits-spec =
-    tie.close (tie.spec window-at-requires sub-v sub-v-2 shr-v pow2-requires rem-v add-t7 returns)
+take-bits-spec = tie.close (tie.spec add-at sub-v shr-v pow2-requires rem-v returns)

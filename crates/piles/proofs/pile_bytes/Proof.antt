@@ -1,8 +1,7 @@
 -- `piles::pile_bytes` meets its contract.
-use mathlib.Core.Path.{ap, _∙_}
 use native.Mathlib.Omega.{arith}
-use Rattle.rules.specs.Packed.{eightBytes, pileBytes}
-use Rattle.bits.proofs.WriteLaws.{start, more}
+use Rattle.rules.specs.Packed.{pileNumber, pileBytes}
+use Rattle.bits.proofs.WriteLaws.{start, more, all-eight}
 use borrow.Author.Needs.{needs}
 use Rattle.piles.proofs.pile_bytes.Statement.{statement}
 use Rattle.piles.proofs.pile_bytes.Tie as tie
@@ -35,32 +34,46 @@ cast-put-bits-5 : tie.Need-cast-put-bits-5
 cast-put-bits-5 c = search needs
 
 put-bits-requires-5 : tie.Need-put-bits-requires-5
-put-bits-requires-5 c κs = omega (arith, c .before .before .put-bits4 .ensures .1, c .before .before .before .before .before .put-bits3 .ensures .1, c .before .before .before .before .before .before .before .before .put-bits2 .ensures .1, c .before .before .before .before .before .before .before .before .before .before .before .put-bits .ensures .1)
+put-bits-requires-5 c κs = search needs
 
 cast-put-bits-6 : tie.Need-cast-put-bits-6
 cast-put-bits-6 c = search needs
 
 put-bits-requires-6 : tie.Need-put-bits-requires-6
-put-bits-requires-6 c κs = omega (arith, c .before .before .put-bits5 .ensures .1, c .before .before .before .before .before .put-bits4 .ensures .1, c .before .before .before .before .before .before .before .before .put-bits3 .ensures .1, c .before .before .before .before .before .before .before .before .before .before .before .put-bits2 .ensures .1, c .before .before .before .before .before .before .before .before .before .before .before .before .before .before .put-bits .ensures .1)
+put-bits-requires-6 c κs = search needs
 
 cast-put-bits-7 : tie.Need-cast-put-bits-7
 cast-put-bits-7 c = search needs
 
 put-bits-requires-7 : tie.Need-put-bits-requires-7
-put-bits-requires-7 c κs = omega (arith, c .before .before .put-bits6 .ensures .1, c .before .before .before .before .before .put-bits5 .ensures .1, c .before .before .before .before .before .before .before .before .put-bits4 .ensures .1, c .before .before .before .before .before .before .before .before .before .before .before .put-bits3 .ensures .1, c .before .before .before .before .before .before .before .before .before .before .before .before .before .before .put-bits2 .ensures .1, c .before .before .before .before .before .before .before .before .before .before .before .before .before .before .before .before .before .put-bits .ensures .1)
+put-bits-requires-7 c κs =
+    let b = c .before in
+    omega (
+      arith,
+      b .before .before .before .before .before .before .before .before .before .before .put-bits .ensures .moved,
+      b .before .before .before .before .before .before .before .before .put-bits2 .ensures .moved,
+      b .before .before .before .before .before .before .put-bits3 .ensures .moved,
+      b .before .before .before .before .put-bits4 .ensures .moved,
+      b .before .before .put-bits5 .ensures .moved,
+      b .put-bits6 .ensures .moved,
+    )
+
+bytes-of-requires : tie.Need-bytes-of-requires
+bytes-of-requires c κs = search needs
 
 returns : tie.Need-returns
 unfolding pileBytes
 returns c =
-    let r = c .before .before .before .before .before .before .before .before .before .before .before .before .before .before .before .before .before .before .before .before .before .args .p in
-    let s1 = more (r .section) 2 start (c .before .before .before .before .before .before .before .before .before .before .before .before .before .before .before .before .before .before .before .put-bits .ensures) in
-    let s2 = more (r .a) 12 s1 (c .before .before .before .before .before .before .before .before .before .before .before .before .before .before .before .before .put-bits2 .ensures) in
-    let s3 = more (r .b) 12 s2 (c .before .before .before .before .before .before .before .before .before .before .before .before .before .put-bits3 .ensures) in
-    let s4 = more (r .method) 2 s3 (c .before .before .before .before .before .before .before .before .before .before .put-bits4 .ensures) in
-    let s5 = more (r .head) 16 s4 (c .before .before .before .before .before .before .before .put-bits5 .ensures) in
-    let s6 = more (r .tip) 16 s5 (c .before .before .before .before .put-bits6 .ensures) in
-    let s7 = more (r .zero) 4 s6 (c .before .put-bits7 .ensures) in
-    s7 .word ∙ ap eightBytes (omega arith)
+    let b = c .before in
+    let s1 = more (start 0) (b .before .before .before .before .before .before .before .before .before .before .before .before .put-bits .ensures) in
+    let s2 = more s1 (b .before .before .before .before .before .before .before .before .before .before .put-bits2 .ensures) in
+    let s3 = more s2 (b .before .before .before .before .before .before .before .before .put-bits3 .ensures) in
+    let s4 = more s3 (b .before .before .before .before .before .before .put-bits4 .ensures) in
+    let s5 = more s4 (b .before .before .before .before .put-bits5 .ensures) in
+    let s6 = more s5 (b .before .before .put-bits6 .ensures) in
+    let s7 = more s6 (b .put-bits7 .ensures) in
+    let p = b .before .before .before .before .before .before .before .before .before .before .before .before .before .before .args .p in
+    all-eight (pileNumber p) (c .bytes-of .ensures) s7 (omega arith)
 
 pub pile-bytes-spec : {M : Type 1} → statement M
 pile-bytes-spec =
@@ -80,4 +93,5 @@ pile-bytes-spec =
     put-bits-requires-6
     cast-put-bits-7
     put-bits-requires-7
+    bytes-of-requires
     returns)

@@ -1,8 +1,13 @@
 -- `piles::take_pile` meets its contract.
-use Rattle.piles.proofs.PileLaws.{pile-fields}
+use Prim.Native.Nat.{ℕ}
+use native.Mathlib.Omega.{arith}
+use Rattle.piles.proofs.PileLaws.{pile-taken}
 use borrow.Author.Needs.{needs}
 use Rattle.piles.proofs.take_pile.Statement.{statement}
 use Rattle.piles.proofs.take_pile.Tie as tie
+
+word-of-requires : tie.Need-word-of-requires
+word-of-requires c κs = search needs
 
 take-bits-requires : tie.Need-take-bits-requires
 take-bits-requires c κs = search needs
@@ -25,9 +30,6 @@ take-bits-requires-6 c κs = search needs
 take-bits-requires-7 : tie.Need-take-bits-requires-7
 take-bits-requires-7 c κs = search needs
 
-cast-t10 : tie.Need-cast-t10
-cast-t10 c = search needs
-
 cast-t11 : tie.Need-cast-t11
 cast-t11 c = search needs
 
@@ -46,16 +48,21 @@ cast-t15 c = search needs
 cast-t16 : tie.Need-cast-t16
 cast-t16 c = search needs
 
+cast-t17 : tie.Need-cast-t17
+cast-t17 c = search needs
+
 returns : tie.Need-returns
 returns c =
-    pile-fields _ _ _ _ _ _ _ _ _ _ _ _ _ _ (c .before .before .before .before .before .before .before .before .before .before .before .before .before .take-bits .ensures .0) (c .before .before .before .before .before .before .before .before .before .before .before .before .before .take-bits .ensures .1) (c .before .before .before .before .before .before .before .before .before .before .before .before .take-bits2 .ensures .0) (c .before .before .before .before .before .before .before .before .before .before .before .before .take-bits2 .ensures .1)
-    (c .before .before .before .before .before .before .before .before .before .before .before .take-bits3 .ensures .0) (c .before .before .before .before .before .before .before .before .before .before .before .take-bits3 .ensures .1) (c .before .before .before .before .before .before .before .before .before .before .take-bits4 .ensures .0) (c .before .before .before .before .before .before .before .before .before .before .take-bits4 .ensures .1)
-    (c .before .before .before .before .before .before .before .before .before .take-bits5 .ensures .0) (c .before .before .before .before .before .before .before .before .before .take-bits5 .ensures .1) (c .before .before .before .before .before .before .before .before .take-bits6 .ensures .0) (c .before .before .before .before .before .before .before .before .take-bits6 .ensures .1) (c .before .before .before .before .before .before .before .take-bits7 .ensures .0)
+    let b = c .before .before .before .before .before .before .before in
+    let a = b .before .before .before .before .before .before .before in
+    pile-taken _ (λ (k : ℕ). omega (arith, a .before .shared-slice-known .given k)) (a .word-of .ensures) (b .before .before .before .before .before .before .take-bits .ensures)
+    (b .before .before .before .before .before .take-bits2 .ensures) (b .before .before .before .before .take-bits3 .ensures) (b .before .before .before .take-bits4 .ensures) (b .before .before .take-bits5 .ensures) (b .before .take-bits6 .ensures) (b .take-bits7 .ensures)
 
 pub take-pile-spec : {M : Type 1} → statement M
 take-pile-spec =
     tie.close
     (tie.spec
+    word-of-requires
     take-bits-requires
     take-bits-requires-2
     take-bits-requires-3
@@ -63,11 +70,11 @@ take-pile-spec =
     take-bits-requires-5
     take-bits-requires-6
     take-bits-requires-7
-    cast-t10
     cast-t11
     cast-t12
     cast-t13
     cast-t14
     cast-t15
     cast-t16
+    cast-t17
     returns)

@@ -33,9 +33,9 @@ take-row-requires c κs = search needs
 
 returns-2 : tie.Need-returns-2
 returns-2 c =
-    let s = c .before .before .before .before .before .args .s .now in
-    let i = c .before .before .before .before .before .args .i in
-    c .before .take-row .ensures .0 ∙ ap (λ (t : List ℕ). rowAt t 0) (part-whole s i) ∙ row-part s i
+    let s = c .before .before .before .before .args .s .now in
+    let i = c .before .before .before .before .args .i in
+    c .take-row .ensures ∙ ap (λ (t : List ℕ). rowAt t 0) (part-whole s i) ∙ row-part s i
 
 pub read-row-spec : {M : Type 1} → statement M
 read-row-spec =

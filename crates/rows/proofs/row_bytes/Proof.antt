@@ -1,7 +1,7 @@
 -- `rows::row_bytes` meets its contract.
 use native.Mathlib.Omega.{arith}
-use Rattle.rules.specs.Packed.{rowBytes}
-use Rattle.bits.proofs.WriteLaws.{start, more, top-five}
+use Rattle.rules.specs.Packed.{rowNumber, rowBytes}
+use Rattle.bits.proofs.WriteLaws.{start, more, low-five}
 use borrow.Author.Needs.{needs}
 use Rattle.rows.proofs.row_bytes.Statement.{statement}
 use Rattle.rows.proofs.row_bytes.Tie as tie
@@ -36,31 +36,35 @@ cast-put-bits-5 c = search needs
 put-bits-requires-5 : tie.Need-put-bits-requires-5
 put-bits-requires-5 c κs = search needs
 
-array-read-t17 : tie.Need-array-read-t17
-array-read-t17 c = search needs
+bytes-of-requires : tie.Need-bytes-of-requires
+bytes-of-requires c κs = search needs
 
-array-read-t20 : tie.Need-array-read-t20
-array-read-t20 c = search needs
+array-read-t13 : tie.Need-array-read-t13
+array-read-t13 c = search needs
 
-array-read-t23 : tie.Need-array-read-t23
-array-read-t23 c = search needs
+array-read-t16 : tie.Need-array-read-t16
+array-read-t16 c = search needs
 
-array-read-t26 : tie.Need-array-read-t26
-array-read-t26 c = search needs
+array-read-t19 : tie.Need-array-read-t19
+array-read-t19 c = search needs
 
-array-read-t29 : tie.Need-array-read-t29
-array-read-t29 c = search needs
+array-read-t22 : tie.Need-array-read-t22
+array-read-t22 c = search needs
+
+array-read-t25 : tie.Need-array-read-t25
+array-read-t25 c = search needs
 
 returns : tie.Need-returns
 unfolding rowBytes
 returns c =
-    let r = c .before .before .before .before .before .before .before .before .before .before .before .before .before .before .before .args .r in
-    let s1 = more (r .thickness) 16 start (c .before .before .before .before .before .before .before .before .before .before .before .before .before .put-bits .ensures) in
-    let s2 = more (r .kind) 3 s1 (c .before .before .before .before .before .before .before .before .before .before .put-bits2 .ensures) in
-    let s3 = more (r .index) 8 s2 (c .before .before .before .before .before .before .before .put-bits3 .ensures) in
-    let s4 = more (r .saturation) 7 s3 (c .before .before .before .before .put-bits4 .ensures) in
-    let s5 = more (r .zero) 6 s4 (c .before .put-bits5 .ensures) in
-    top-five _ _ _ (s5 .word) (omega arith)
+    let b = c .before in
+    let r = b .before .before .before .before .before .before .before .before .before .before .args .r in
+    let s1 = more (start 24) (b .before .before .before .before .before .before .before .before .put-bits .ensures) in
+    let s2 = more s1 (b .before .before .before .before .before .before .put-bits2 .ensures) in
+    let s3 = more s2 (b .before .before .before .before .put-bits3 .ensures) in
+    let s4 = more s3 (b .before .before .put-bits4 .ensures) in
+    let s5 = more s4 (b .put-bits5 .ensures) in
+    low-five (rowNumber r) (c .bytes-of .ensures) s5 (omega arith)
 
 pub row-bytes-spec : {M : Type 1} → statement M
 row-bytes-spec =
@@ -76,9 +80,10 @@ row-bytes-spec =
     put-bits-requires-4
     cast-put-bits-5
     put-bits-requires-5
-    array-read-t17
-    array-read-t20
-    array-read-t23
-    array-read-t26
-    array-read-t29
+    bytes-of-requires
+    array-read-t13
+    array-read-t16
+    array-read-t19
+    array-read-t22
+    array-read-t25
     returns)
