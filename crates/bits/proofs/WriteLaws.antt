@@ -2,15 +2,11 @@
 use mathlib.Core.Path.{_≡_, refl, ap, sym, _∙_}
 use mathlib.Core.List.{List, [], _∷_}
 use Prim.Native.Nat.{ℕ, _+_, _*_, _-_, _/_, _%_, _^_}
-use native.Mathlib.Nat.{mod-add-mod, add-mod-mod}
+use native.Mathlib.Nat.{mod-add-mod}
 use native.Mathlib.Omega.{arith}
 use lib.ListN.{getD}
 use Rattle.rules.specs.Packed.{fiveBytes, sevenBytes, eightBytes}
 use Rattle.bits.specs.Word.{Written}
-
--- a sum that wraps
-pub wrapped : (w x y : ℕ) → y ≡ (w + x % 18446744073709551616) % 18446744073709551616 → y ≡ (w + x) % 18446744073709551616
-wrapped w x y e = e ∙ add-mod-mod w x 18446744073709551616
 
 -- what lies k bytes further up
 up : (x q k : ℕ) → (x + q * (256 * k)) / 256 ≡ x / 256 + q * k

@@ -34,13 +34,13 @@ pub fn take_bits(c: Cursor, n: usize) -> Bits
     requires { ⌜ (0 < n) × (n < 64) × (c .at + n ≤ 64) ⌝ }
     ensures { λ r. ⌜ Taken (c .word) (c .at) n (r .value) (r .next .word) (r .next .at) ⌝ }
 {
-    let at = c.at + n;
-    let v = (c.word >> (64 - at)) % pow2(n);
+    let end = c.at + n;
+    let v = (c.word >> (64 - end)) % pow2(n);
     Bits {
         value: v,
         next: Cursor {
             word: c.word,
-            at: at,
+            at: end,
         },
     }
 }

@@ -7,8 +7,8 @@ use borrow.Author.Needs.{needs}
 use Rattle.bits.proofs.take_bits.Statement.{statement}
 use Rattle.bits.proofs.take_bits.Tie as tie
 
-add-at : tie.Need-add-at
-add-at c = search needs
+add-end : tie.Need-add-end
+add-end c = search needs
 
 sub-v : tie.Need-sub-v
 sub-v c = search needs
@@ -28,4 +28,4 @@ returns c =
     record { value = rw (c .pow2 .ensures .0); small = rw (c .pow2 .ensures .0) (mod-lt _ (positive _)); same = refl; moved = refl }
 
 pub take-bits-spec : {M : Type 1} → statement M
-take-bits-spec = tie.close (tie.spec add-at sub-v shr-v pow2-requires rem-v returns)
+take-bits-spec = tie.close (tie.spec add-end sub-v shr-v pow2-requires rem-v returns)
