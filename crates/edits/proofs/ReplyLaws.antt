@@ -80,10 +80,16 @@ module _ (e : Edit) (log pile table : List ℕ) (g : Accepted e log pile table) 
   unfolding editChecked
   depth-now r h = ap (λ (x : Checked). x .depth) h ∙ rw (g .checks, f)
 
-  pub few : (n : ℕ) → n ≡ usedSlices s pile → n ≤ placeLimit
-  few n h = rw h (few-slices (rowsOf s) (pileOf pile))
+  pub accepted-edit : (a : Answer) (new : List ℕ) → a ≡ editAnswer s pile table → new ≡ freshTable s pile
+      → (a ≡ editReply e log pile table) × ((s ≡ editLog e log pile table) × (new ≡ editTable e log pile table))
+  unfolding editReply editLog editTable
+  accepted-edit a new h t = (rw (g .checks) (h ∙ rw f), (rw (g .checks) f, rw (g .checks) (t ∙ rw f)))
 
-  pub accepted-edit : (a : Answer) (n m : ℕ) (new old : List ℕ) → a ≡ freshAnswer s pile → n ≡ usedSlices s pile → new ≡ freshTable s pile → old ≡ table → m ≡ kept n new old
-      → (withKept m a ≡ editReply e log pile table) × ((s ≡ editLog e log pile table) × (new ≡ editTable e log pile table))
-  unfolding editReply editLog editTable editAnswer
-  accepted-edit a n m new old p q t u h = (rw (g .checks) (rw (h, p, q, t, u, f)), (rw (g .checks) f, rw (g .checks) (t ∙ rw f)))
+-- the answer of the log as it now stands, with kept
+pub few : (log pile : List ℕ) (n : ℕ) → n ≡ usedSlices log pile → n ≤ placeLimit
+few log pile n h = rw h (few-slices (rowsOf log) (pileOf pile))
+
+pub held : (log pile table : List ℕ) (a : Answer) (n m : ℕ) (new old : List ℕ) → a ≡ freshAnswer log pile → n ≡ usedSlices log pile → new ≡ freshTable log pile → old ≡ table → m ≡ kept n new old
+    → withKept m a ≡ editAnswer log pile table
+unfolding editAnswer
+held log pile table a n m new old p q t u h = rw (h, p, q, t, u)

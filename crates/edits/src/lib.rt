@@ -1,11 +1,30 @@
 // The four edits of a lent log: their refusals in order, the log as it then stands, its answer and table, and kept.
 use rules::Answer;
 ghost use mathlib.Core.Path.{_≡_};
-ghost use Rattle.rules.specs.Edits.{editReply, editLog, editTable};
+ghost use lib.ListN.{length};
+ghost use Rattle.rules.specs.Limits.{pileSize, tableSize};
+ghost use Rattle.rules.specs.Packed.{rowsOf};
+ghost use Rattle.rules.specs.Checks.{depthOf};
+ghost use Rattle.rules.specs.Calculation.{freshTable};
+ghost use Rattle.rules.specs.Edits.{editAnswer, editReply, editLog, editTable};
+ghost use Rattle.strata.specs.Good.{Good};
 ghost use Rattle.edited.specs.Asked.{asked};
 
+// The changed log, this deep, is worked out into the table. The table is written in place, so kept is counted against a copy of it.
+fn hold(log: &[u8], depth: u64, pile: &[u8], table: &mut [u8]) -> Answer
+    requires { ⌜ Good (now log) × (depth ≡ depthOf (rowsOf (now log))) × (length (now pile) ≡ pileSize) × (length (now table) ≡ tableSize) ⌝ }
+    ensures { λ r. ⌜ r ≡ editAnswer (now (log .entry)) (now (pile .entry)) (now (table .entry)) ⌝ }
+    ensures { λ _. ⌜ now (table .exit) ≡ freshTable (now (log .entry)) (now (pile .entry)) ⌝ }
+{
+    let old = kept::table_copy(table);
+    let work = work::work_out(log, depth, pile, table);
+    let same = kept::kept_count(table, &old, work.used);
+    let mut answer = work.answer;
+    answer.kept = same as u32;
+    answer
+}
+
 // An edit of a log, with a pile record, a slice table and a new row of any lengths: the reply, and the log and table afterwards.
-// The table is worked out in place, so kept is counted against a copy of it as it was lent.
 pub fn edit(
     log: &mut [u8],
     pile: &[u8],
@@ -24,11 +43,6 @@ pub fn edit(
     if 0 < refusal.number {
         return replies::refused(refusal);
     }
-    let old = kept::table_copy(table);
     changes::change(log, kind, k, x, row);
-    let work = work::work_out(log, checked.depth, pile, table);
-    let same = kept::kept_count(table, &old, work.used);
-    let mut answer = work.answer;
-    answer.kept = same as u32;
-    answer
+    hold(log, checked.depth, pile, table)
 }

@@ -1,11 +1,7 @@
--- edit: a refused one leaves everything; an accepted one changes the log, which is then worked out into the table.
-use mathlib.Core.Path.{_∙_, ap}
-use mathlib.Core.List.{List}
-use Prim.Native.Nat.{ℕ}
+-- edit: a refused one leaves everything; an accepted one changes the log, which is then worked out and held.
 use native.Mathlib.Omega.{arith}
-use lib.ListN.{length}
 use Rattle.edited.specs.Asked.{asked}
-use Rattle.edits.proofs.ReplyLaws.{said, refused-edit, Accepted, accepted, good-now, depth-now, few, accepted-edit}
+use Rattle.edits.proofs.ReplyLaws.{said, refused-edit, Accepted, accepted, good-now, depth-now, accepted-edit}
 use borrow.Author.Needs.{needs}
 use Rattle.edits.proofs.edit.Statement.{statement}
 use Rattle.edits.proofs.edit.Tie as tie
@@ -34,28 +30,14 @@ returns c =
     let a = c .before .before .before .before .before .before .before .before .before .before .before .args in
     refused-edit (asked (a .kind) (a .k) (a .x) (a .row .now)) (a .log .now) (a .pile .now) (a .table .now) _ _ (said _ _ _ _ _ (c .before .before .before .before .check-edit .ensures)) (c .before .if1 .taken) (c .refused .ensures)
 
-table-copy-requires : tie.Need-table-copy-requires
-table-copy-requires c κs = fair (c .before) .table
-
 change-requires : tie.Need-change-requires
-change-requires c κs = fair (c .before .before .before) .ready
+change-requires c κs = fair (c .before) .ready
 
-work-out-requires : tie.Need-work-out-requires
-work-out-requires c κs =
-    let g = fair (c .before .before .before .before .before .before .before .before) in
+hold-requires : tie.Need-hold-requires
+hold-requires c κs =
+    let g = fair (c .before .before .before .before .before .before) in
     let e = c .before .before .before .before .change .ensures in
-    (good-now _ _ _ _ g _ e, depth-now _ _ _ _ g _ e _ (c .before .before .before .before .before .before .before .before .before .before .before .check-edit .ensures), g .pile, g .table)
-
-slice-aggregate-kept-count : tie.Need-slice-aggregate-kept-count
-slice-aggregate-kept-count c = search needs
-
-kept-count-requires : tie.Need-kept-count-requires
-kept-count-requires c κs =
-    let g = fair (c .before .before .before .before .before .before .before .before .before .before .before .before .before) in
-    (omega (arith, few _ _ _ _ g _ (c .before .before .before .before .before .before .before .before .before .change .ensures) _ (c .before .before .before .before .work-out .ensures .0 .1)), search needs, ap (λ (t : List ℕ). length t) (c .before .before .before .before .before .before .before .before .before .before .before .table-copy .ensures) ∙ g .table)
-
-cast-answer : tie.Need-cast-answer
-cast-answer c = record { fits = omega (arith, few _ _ _ _ (fair (c .before .before .before .before .before .before .before .before .before .before .before .before .before .before .before)) _ (c .before .before .before .before .before .before .before .before .before .before .before .change .ensures) _ (c .before .before .before .before .before .before .work-out .ensures .0 .1), c .before .kept-count .ensures .1) }
+    (good-now _ _ _ _ g _ e, depth-now _ _ _ _ g _ e _ (c .before .before .before .before .before .before .before .before .before .check-edit .ensures), g .pile, g .table)
 
 same-length-3 : tie.Need-same-length-3
 same-length-3 c = search needs
@@ -65,8 +47,7 @@ same-length-4 c = search needs
 
 returns-2 : tie.Need-returns-2
 returns-2 c =
-    let w = c .before .before .before .before .before .before .work-out .ensures in
-    accepted-edit _ _ _ _ (fair (c .before .before .before .before .before .before .before .before .before .before .before .before .before .before .before)) _ (c .before .before .before .before .before .before .before .before .before .before .before .change .ensures) _ _ _ _ _ (w .0 .0) (w .0 .1) (w .1) (c .before .before .before .before .before .before .before .before .before .before .before .before .before .table-copy .ensures) (c .before .kept-count .ensures .0)
+    accepted-edit _ _ _ _ (fair (c .before .before .before .before .before .before .before .before .before)) _ (c .before .before .before .before .before .before .before .change .ensures) _ _ (c .before .before .hold .ensures .0) (c .before .before .hold .ensures .1)
 
 pub edit-spec : {M : Type 1} → statement M
 edit-spec =
@@ -77,12 +58,8 @@ edit-spec =
     same-length
     same-length-2
     returns
-    table-copy-requires
     change-requires
-    work-out-requires
-    slice-aggregate-kept-count
-    kept-count-requires
-    cast-answer
+    hold-requires
     same-length-3
     same-length-4
     returns-2)
