@@ -65,6 +65,7 @@ filled-long cs b n h f =
     omega (arith, f .0, ap length (f .1), length-append (slicesBytes cs) (replicate (tableSize - n * sliceSize) 0), bytes-long cs, length-replicate {A = ℕ} (tableSize - n * sliceSize) 0)
 
 pub filled-more : (cs : List Slice) (b e : List ℕ) (n : ℕ) (c : Slice) → n < placeLimit → e ≡ putAt b n c → Filled cs b n → Filled (cs ++ (c ∷ [])) e (n + 1)
+unfolding putAt
 filled-more cs b e n c h q f =
     let k : tableSize - n * sliceSize ≡ sliceSize + (tableSize - (n + 1) * sliceSize) = omega arith in
     let p : List ℕ = slicesBytes cs in

@@ -17,7 +17,7 @@ abbrev pub sliceHere : Pile → Soil → ℕ → ℕ → Slice
 sliceHere p s at bottom = sliceOf p (piece at (min (min sliceLimit (p .tip - at)) (bottom - at)) s)
 
 -- a table with slice c in place n
-abbrev pub putAt : List ℕ → ℕ → Slice → List ℕ
+unfoldable pub putAt : List ℕ → ℕ → Slice → List ℕ
 putAt t n c = take (n * sliceSize) t ++ sliceBytes c ++ drop (n * sliceSize + sliceSize) t
 
 -- a slice whose numbers fit their bits in a table

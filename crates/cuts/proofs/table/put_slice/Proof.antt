@@ -7,6 +7,7 @@ use native.Mathlib.Omega.{arith}
 use lib.ListN.{length, take, drop, length-set}
 use lib.Seq.{paste}
 use Rattle.rules.specs.Limits.{sliceSize}
+use Rattle.cuts.specs.Cuts.{putAt}
 use Rattle.cuts.proofs.TableLaws.{slice-long, copy-none, copy-more, copy-all}
 use Rattle.cuts.proofs.table.put_slice.Statement.{statement}
 use Rattle.cuts.proofs.table.put_slice.Tie as tie
@@ -55,6 +56,7 @@ same-length : tie.Need-same-length Inv-loop μ-loop
 same-length c = c .before .loop .inv .1
 
 returns : tie.Need-returns Inv-loop μ-loop
+unfolding putAt
 returns c =
     let b = c .before .before .slice-bytes in
     let a = c .before .before .before .before in
