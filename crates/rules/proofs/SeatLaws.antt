@@ -17,7 +17,7 @@ use Rattle.rules.proofs.Basics.{split, sure, same-eq, same-of}
 use Rattle.rules.proofs.GroundLaws.{soil-here, soil-below}
 
 -- a run goes on over its own soil
-run-on : (g : ℕ → Soil) (s : Soil) (b m : ℕ) → ((k : ℕ) → b ≤ k → k < b + m → g k ≡ s) → runTop g s (b + m) ≡ runTop g s b
+pub run-on : (g : ℕ → Soil) (s : Soil) (b m : ℕ) → ((k : ℕ) → b ≤ k → k < b + m → g k ≡ s) → runTop g s (b + m) ≡ runTop g s b
 unfolding runTop
 run-on g s b zero c = let e : b + zero ≡ b = omega arith in rw e
 run-on g s b (suc m) c =
@@ -43,11 +43,11 @@ turned g s r q b h k =
     (λ (e : same s r ≡ false). rw e (apart g s r b k e))
     (sure (same s r))
 
-pub top-here : (r : Row) (rs : List Row) (s : Soil) (q b m : ℕ) → m < b + r .thickness → topFrom (r ∷ rs) s q b m ≡ pick (same s (soilOf r)) q b
+top-here : (r : Row) (rs : List Row) (s : Soil) (q b m : ℕ) → m < b + r .thickness → topFrom (r ∷ rs) s q b m ≡ pick (same s (soilOf r)) q b
 unfolding topFrom
 top-here r rs s q b m h = rw (lt-ltb m (b + r .thickness) h)
 
-pub top-below : (r : Row) (rs : List Row) (s : Soil) (q b m : ℕ) → b + r .thickness ≤ m → topFrom (r ∷ rs) s q b m ≡ topFrom rs (soilOf r) (pick (same s (soilOf r)) q b) (b + r .thickness) m
+top-below : (r : Row) (rs : List Row) (s : Soil) (q b m : ℕ) → b + r .thickness ≤ m → topFrom (r ∷ rs) s q b m ≡ topFrom rs (soilOf r) (pick (same s (soilOf r)) q b) (b + r .thickness) m
 unfolding topFrom
 top-below r rs s q b m h = rw (le-ltb m (b + r .thickness) h)
 

@@ -1,4 +1,4 @@
 -- Laws of the walk along a log's rows.
 pub mod LogLaws
 pub mod GoodLaws
-pub mod WalkLaws
+pub mod RunLaws

@@ -2,12 +2,12 @@
 ghost use mathlib.Core.Path.{_≡_};
 ghost use Prim.Native.Nat.{_<_};
 ghost use lib.Dec.{leb};
-ghost use Rattle.rules.specs.Base.{pick, either};
+ghost use Rattle.rules.specs.Base.{either};
 ghost use Rattle.rules.specs.Checks.{depthOf};
 ghost use Rattle.rules.specs.Ground.{same, soilOf};
 ghost use Rattle.rules.specs.Packed.{rowsOf};
 ghost use Rattle.strata.specs.Good.{Good};
-ghost use Rattle.strata.specs.Strata.{stratumAt};
+ghost use Rattle.strata.specs.Strata.{Holds, stratumAt};
 use rules::Row;
 use rules::Soil;
 
@@ -51,40 +51,50 @@ pub fn joins(soil: Soil, bottom: u64, at: u64, r: Row) -> bool
     same_soil(soil, soil_of(r))
 }
 
-// Where the run of soil s begins whose first row is at bottom, below soil's run from top.
-fn run_top(soil: Soil, s: Soil, top: u64, bottom: u64) -> u64
-    ensures { λ r. ⌜ r ≡ pick (same soil s) top bottom ⌝ }
-{
-    if same_soil(soil, s) {
-        return top;
-    }
-    bottom
+// The row that holds a millimetre, counted from 0, and its top.
+struct Held {
+    row: usize,
+    top: u64,
 }
 
-// The stratum that holds millimetre m.
+fn row_at(log: &[u8], m: u64) -> Held
+    requires { ⌜ Good (now log) × (m < depthOf (rowsOf (now log))) ⌝ }
+    ensures { λ r. ⌜ Holds (now (log .entry)) m r ⌝ }
+{
+    let n = log[0] as usize;
+    let mut bottom: u64 = 0;
+    let mut i: usize = 0;
+    while i < n {
+        let top = bottom;
+        let r = rows::read_row(log, 1 + i * ROW_SIZE);
+        bottom += r.thickness as u64;
+        if m < bottom {
+            return Held { row: i, top: top };
+        }
+        i += 1;
+    }
+    Held {
+        row: i,
+        top: bottom,
+    }
+}
+
+// The stratum that holds millimetre m: from its row up, as long as the soil stays the same.
 pub fn stratum_at(log: &[u8], m: u64) -> Stratum
     requires { ⌜ Good (now log) × (m < depthOf (rowsOf (now log))) ⌝ }
     ensures { λ r. ⌜ r ≡ stratumAt (rowsOf (now (log .entry))) m ⌝ }
 {
-    let n = log[0] as usize;
-    let mut soil = Soil {
-        kind: 0,
-        index: 0,
-        saturation: 0,
-    };
-    let mut top: u64 = 0;
-    let mut bottom: u64 = 0;
-    let mut i: usize = 0;
-    while i < n {
-        let r = rows::read_row(log, 1 + i * ROW_SIZE);
-        let s = soil_of(r);
-        top = run_top(soil, s, top, bottom);
-        soil = s;
-        bottom += r.thickness as u64;
-        if m < bottom {
+    let held = row_at(log, m);
+    let mut i = held.row;
+    let mut top = held.top;
+    let soil = soil_of(rows::read_row(log, 1 + i * ROW_SIZE));
+    while 0 < i {
+        i -= 1;
+        let above = rows::read_row(log, 1 + i * ROW_SIZE);
+        if !same_soil(soil, soil_of(above)) {
             return Stratum { soil, top };
         }
-        i += 1;
+        top -= above.thickness as u64;
     }
-    Stratum { soil, top: bottom }
+    Stratum { soil, top }
 }

@@ -1,34 +1,30 @@
--- `strata::stratum_at` meets its contract: the rows passed end in a run whose top is known.
+-- `strata::stratum_at` meets its contract: the run that holds the millimetre goes up to row i at the least.
 use borrow.Author.Needs.{needs}
-use mathlib.Core.Path.{refl}
-use Prim.Native.Nat.{_-_}
+use borrow.Author.Tests.{not-true, not-false}
+use mathlib.Core.Path.{refl, sym, _∙_, ap}
+use Prim.Native.Nat.{_-_, _<_}
 use native.Mathlib.Omega.{arith}
-use Rattle.rules.specs.Packed.{rowsOf}
-use Rattle.strata.proofs.LogLaws.{row-left, row-fits}
-use Rattle.strata.proofs.WalkLaws.{Passed, passed-none, passed-more, passed-here, passed-all}
+use Rattle.rules.specs.Packed.{countOf, rowsOf}
+use Rattle.rules.specs.Ground.{same}
+use Rattle.strata.proofs.LogLaws.{row-left}
+use Rattle.strata.proofs.RunLaws.{Risen, risen-none, risen-more, risen-here, risen-all, fits}
 use Rattle.strata.proofs.stratum_at.Statement.{statement}
 use Rattle.strata.proofs.stratum_at.Tie as tie
 
 abbrev Inv-loop : tie.InvT-loop
-Inv-loop log m n soil₀ top₀ bottom₀ i₀ soil top bottom i = Passed (rowsOf log) m i soil top bottom
+Inv-loop log m i₀ top₀ soil i top = (i < countOf log) × Risen (rowsOf log) m i soil top
 
 abbrev μ-loop : tie.MeasureT-loop
-μ-loop log m n soil₀ top₀ bottom₀ i₀ soil top bottom i = n - i
+μ-loop log m i₀ top₀ soil i top = i
 
-shared-slice-read-n : tie.Need-shared-slice-read-n Inv-loop μ-loop
-shared-slice-read-n c = omega (arith, c .before .before .pre .0 .long)
-
-cast-n : tie.Need-cast-n Inv-loop μ-loop
-cast-n c = omega (arith, c .before .before .pre .0 .count)
-
-loop-holds : tie.Need-loop-holds Inv-loop μ-loop
-loop-holds c = passed-none _ _
+row-at-requires : tie.Need-row-at-requires Inv-loop μ-loop
+row-at-requires c κs = search needs
 
 mul-read-row : tie.Need-mul-read-row Inv-loop μ-loop
-mul-read-row c = omega (arith, c .before .before .before .before .pre .0 .count)
+mul-read-row c = omega (arith, c .row-at .ensures .row, c .before .before .pre .0 .count)
 
 add-read-row : tie.Need-add-read-row Inv-loop μ-loop
-add-read-row c = omega (arith, c .before .before .before .before .pre .0 .count)
+add-read-row c = omega (arith, c .row-at .ensures .row, c .before .before .pre .0 .count)
 
 read-row-requires : tie.Need-read-row-requires Inv-loop μ-loop
 read-row-requires c κs = search needs
@@ -36,46 +32,62 @@ read-row-requires c κs = search needs
 soil-of-requires : tie.Need-soil-of-requires Inv-loop μ-loop
 soil-of-requires c κs = search needs
 
-run-top-requires : tie.Need-run-top-requires Inv-loop μ-loop
-run-top-requires c κs = search needs
+loop-holds : tie.Need-loop-holds Inv-loop μ-loop
+loop-holds c =
+    let a = c .before .before .before .before in
+    let held = c .before .before .row-at in
+    (held .ensures .row, risen-none (a .args .log .now) _ (held .result) _ _ _ (held .ensures) (row-left (a .args .log .now) (held .result .row) _ (held .ensures .row) (c .before .read-row .ensures)) (c .soil-of .ensures))
 
-cast-bottom : tie.Need-cast-bottom Inv-loop μ-loop
-cast-bottom c = search needs
+sub-i : tie.Need-sub-i Inv-loop μ-loop
+sub-i c = search needs
 
-add-bottom : tie.Need-add-bottom Inv-loop μ-loop
-add-bottom c =
-    let read = c .before .before .before in
-    let l = read .before .before in
-    let a = l .before .before .before in
-    record { fits = row-fits (a .args .log .now) (l .loop .i) _ _ (a .pre .0) (omega arith) (read .read-row .ensures) (l .loop .inv .sum) }
+mul-read-row-2 : tie.Need-mul-read-row-2 Inv-loop μ-loop
+mul-read-row-2 c = omega (arith, c .before .loop .inv .0, c .before .before .before .before .before .before .pre .0 .count)
+
+add-read-row-2 : tie.Need-add-read-row-2 Inv-loop μ-loop
+add-read-row-2 c = omega (arith, c .before .loop .inv .0, c .before .before .before .before .before .before .pre .0 .count)
+
+read-row-requires-2 : tie.Need-read-row-requires-2 Inv-loop μ-loop
+read-row-requires-2 c κs = search needs
+
+soil-of-requires-2 : tie.Need-soil-of-requires-2 Inv-loop μ-loop
+soil-of-requires-2 c κs = search needs
+
+same-soil-requires : tie.Need-same-soil-requires Inv-loop μ-loop
+same-soil-requires c κs = search needs
 
 returns : tie.Need-returns Inv-loop μ-loop
 returns c =
-    let read = c .before .before .before .before in
-    let l = read .before .before in
-    let a = l .before .before .before in
-    passed-here _ _ (l .loop .i) _ _ _ _ _ _ _ _ (row-left (a .args .log .now) (l .loop .i) _ (omega arith) (read .read-row .ensures)) (c .before .before .before .soil-of .ensures) refl
-    (c .before .before .run-top .ensures) (l .loop .inv) (c .if1 .taken) (a .pre .0 .full) (a .pre .1)
+    let a = c .before .before .before .before .before .before .before .before .before .before in
+    let l = c .before .before .before .before .before .loop in
+    risen-here _ _ (l .i - 1) (l .i) _ _ _ _ (omega (arith, c .before .before .before .before .loop-test .taken)) (l .inv .1) (row-left (a .args .log .now) (l .i - 1) _ (omega (arith, l .inv .0)) (c .before .before .before .read-row2 .ensures))
+    (sym (c .before .same-soil .ensures ∙ ap (same _) (c .before .before .soil-of2 .ensures)) ∙ not-true _ (c .if1 .taken)) (a .pre .0 .full)
 
-add-i : tie.Need-add-i Inv-loop μ-loop
-add-i c = search needs
+cast-top : tie.Need-cast-top Inv-loop μ-loop
+cast-top c = search needs
+
+sub-top : tie.Need-sub-top Inv-loop μ-loop
+sub-top c =
+    let a = c .before .before .before .before .before .before .before .before .before .before .before in
+    let l = c .before .before .before .before .before .before .loop in
+    omega (arith, fits _ _ (l .i - 1) (l .i) _ _ _ _ (omega (arith, c .before .before .before .before .before .loop-test .taken)) (l .inv .1) (row-left (a .args .log .now) (l .i - 1) _ (omega (arith, l .inv .0)) (c .before .before .before .before .read-row2 .ensures)))
 
 loop-less : tie.Need-loop-less Inv-loop μ-loop
-loop-less c = search needs
+loop-less c = omega (arith, c .before .before .before .before .before .loop-test .taken)
 
 loop-again : tie.Need-loop-again Inv-loop μ-loop
 loop-again c =
-    let read = c .before .before .before .before in
-    let l = read .before .before in
-    let a = l .before .before .before in
-    passed-more _ _ (l .loop .i) _ _ _ _ _ _ _ _ (row-left (a .args .log .now) (l .loop .i) _ (omega arith) (read .read-row .ensures)) (c .before .before .before .soil-of .ensures) refl
-    (c .before .before .run-top .ensures) (l .loop .inv) refl (c .if1 .left)
+    let a = c .before .before .before .before .before .before .before .before .before .before .before in
+    let l = c .before .before .before .before .before .before .loop in (
+      omega (arith, l .inv .0),
+      risen-more _ _ (l .i - 1) (l .i) _ _ _ _ (omega (arith, c .before .before .before .before .before .loop-test .taken)) (l .inv .1) (row-left (a .args .log .now) (l .i - 1) _ (omega (arith, l .inv .0)) (c .before .before .before .before .read-row2 .ensures))
+          (sym (c .before .before .same-soil .ensures ∙ ap (same _) (c .before .before .before .soil-of2 .ensures)) ∙ not-false _ (c .before .if1 .left)),
+    )
 
 returns-2 : tie.Need-returns-2 Inv-loop μ-loop
 returns-2 c =
-    let l = c .before in
-    let a = l .before .before .before in
-    absurd (passed-all (a .args .log .now) _ (l .loop .i) _ _ _ (omega arith) (a .pre .1) (l .loop .inv))
+    let l = c .before .loop in
+    risen-all _ _ (l .i) _ _ (omega (arith, c .loop-test .left)) (l .inv .1)
 
 pub stratum-at-spec : {M : Type 1} → statement M
 stratum-at-spec =
@@ -83,18 +95,21 @@ stratum-at-spec =
     (tie.spec
     Inv-loop
     μ-loop
-    shared-slice-read-n
-    cast-n
-    loop-holds
+    row-at-requires
     mul-read-row
     add-read-row
     read-row-requires
     soil-of-requires
-    run-top-requires
-    cast-bottom
-    add-bottom
+    loop-holds
+    sub-i
+    mul-read-row-2
+    add-read-row-2
+    read-row-requires-2
+    soil-of-requires-2
+    same-soil-requires
     returns
-    add-i
+    cast-top
+    sub-top
     loop-less
     loop-again
     returns-2)
