@@ -11,11 +11,11 @@ const SLICE_SIZE: usize = 7;
 const TABLE_SIZE: usize = 581;
 
 // The lent table's bytes.
-pub fn table_copy(table: &[u8]) -> [u8; 581]
+pub fn table_copy(table: &[u8]) -> [u8; TABLE_SIZE]
     requires { ⌜ length (now table) ≡ tableSize ⌝ }
     ensures { λ r. ⌜ r ≡ now (table .entry) ⌝ }
 {
-    let mut copy = [0u8; 581];
+    let mut copy = [0u8; TABLE_SIZE];
     let mut i: usize = 0;
     while i < TABLE_SIZE {
         copy[i] = table[i];

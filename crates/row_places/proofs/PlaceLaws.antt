@@ -9,7 +9,7 @@ use lib.ListN.{getD, take, drop, set, replicate, length, length-append, length-d
 use lib.Seq.{take-add, take-at, drop-at, getD-append-add, getD-drop, getD-take, length-take-le, take-all, take-suc, drop-cons, set-at, append-snoc, drop-append-le, paste-suc}
 use Rattle.rules.specs.Limits.{rowSize}
 use Rattle.rules.specs.Edits.{moved}
-use Rattle.row_places.specs.Places.{opened, closed, put, inserted, divided}
+use Rattle.row_places.specs.Places.{opened, raised, closed, put, inserted, divided}
 
 pub length-opened : (t : List ℕ) → rowSize ≤ length t → length (opened t) ≡ length t
 unfolding opened
@@ -69,30 +69,42 @@ stored-ends t o u i h k e =
     let l : length o ≤ i = omega arith in
     e ∙ rw (take-all i o l, drop-of-length-le t k, append-nil)
 
-pub length-closed : (t : List ℕ) → rowSize ≤ length t → length (closed t) ≡ length t
-unfolding closed
-length-closed t h = simp (length-append, length-drop) (omega arith)
+length-raised : (t : List ℕ) → rowSize ≤ length t → length (raised t) ≡ length t
+unfolding raised
+length-raised t h = simp (length-append, length-drop) (omega arith)
 
--- the byte five further on, and zero where there is none
-pub closing-ahead : (t u : List ℕ) (i : ℕ) → u ≡ fromOn (closed t) t i → i + rowSize < length t → getD u (i + rowSize) 0 ≡ getD (closed t) i 0
-unfolding closed
-closing-ahead t u i e h =
-    let m : length (take i (closed t)) ≡ i = length-take-le i (closed t) (omega (arith, length-closed t (omega arith))) in
+-- the byte five further on
+ahead : (t u : List ℕ) (i : ℕ) → u ≡ fromOn (raised t) t i → i + rowSize < length t → getD u (i + rowSize) 0 ≡ getD (raised t) i 0
+unfolding raised
+ahead t u i e h =
+    let m : length (take i (raised t)) ≡ i = length-take-le i (raised t) (omega (arith, length-raised t (omega arith))) in
     ap (λ (l : List ℕ). getD l (i + 5) 0) e
-    ∙ ap (λ (k : ℕ). getD (fromOn (closed t) t i) (k + 5) 0) (sym m)
-    ∙ getD-append-add (take i (closed t)) (drop i t) 5 0
+    ∙ ap (λ (k : ℕ). getD (fromOn (raised t) t i) (k + 5) 0) (sym m)
+    ∙ getD-append-add (take i (raised t)) (drop i t) 5 0
     ∙ getD-drop i t 5 0
     ∙ ap (λ (k : ℕ). getD t k 0) (omega arith)
     ∙ sym (List·getD-append (drop 5 t) _ 0 i (simp length-drop (omega arith)) ∙ getD-drop 5 t i 0)
 
-pub closing-beyond : (t : List ℕ) (i : ℕ) → rowSize ≤ length t → i < length t → length t ≤ i + rowSize → 0 ≡ getD (closed t) i 0
-unfolding closed
-closing-beyond t i h g k =
-    let e : i ≡ length (drop 5 t) + (i + 5 - length t) = simp length-drop (omega arith) in
-    sym
-    (ap (λ (j : ℕ). getD (closed t) j 0) e
-    ∙ getD-append-add (drop 5 t) (replicate 5 0) (i + 5 - length t) 0
-    ∙ getD-replicate 5 (i + 5 - length t) 0 0 (omega arith))
+pub raising-turn : (t u : List ℕ) (i : ℕ) → u ≡ fromOn (raised t) t i → i + rowSize < length t → set u i (getD u (i + rowSize) 0) ≡ fromOn (raised t) t (i + 1)
+raising-turn t u i e h = stored-turn t (raised t) u i _ (omega (arith, length-raised t (omega arith))) (omega arith) e (ahead t u i e h)
+
+-- the bytes that moved are all but the last five
+raised-front : (t : List ℕ) → rowSize ≤ length t → take (length t - rowSize) (raised t) ≡ drop rowSize t
+unfolding raised
+raised-front t h = take-at (drop 5 t) _ (length t - 5) (length-drop 5 t)
+
+pub raising-ends : (t u : List ℕ) (i : ℕ) → rowSize ≤ length t → length t ≤ i + rowSize → i + rowSize ≤ length t → u ≡ fromOn (raised t) t i → u ≡ raised t
+unfolding raised
+raising-ends t u i h g k e =
+    let f : i ≡ length t - 5 = omega arith in
+    e ∙ rw f (ap (λ (l : List ℕ). l ++ drop (length t - 5) t) (raised-front t h))
+
+pub closed-is : (t r : List ℕ) → rowSize ≤ length t → r ≡ raised t
+    → take (length r - rowSize) r ++ put (replicate rowSize 0) (drop (length r - rowSize) r) ≡ closed t
+unfolding put closed
+closed-is t r h e =
+    let n : length (drop (length t - 5) (raised t)) ≤ 5 = simp length-drop (omega (arith, length-raised t h)) in
+    rw (e, length-raised t h, raised-front t h, drop-of-length-le (drop (length t - 5) (raised t)) n)
 
 pub put-ends : (t r u : List ℕ) (i : ℕ) → length r ≡ rowSize → rowSize ≤ i → i ≤ rowSize → u ≡ fromOn r t i → u ≡ put r t
 unfolding put

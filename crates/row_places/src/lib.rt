@@ -4,7 +4,7 @@ ghost use mathlib.Core.Path.{_≡_};
 ghost use Prim.Native.Nat.{_*_, _≤_};
 ghost use lib.ListN.{length};
 ghost use Rattle.rules.specs.Limits.{rowSize};
-ghost use Rattle.row_places.specs.Places.{opened, closed, put, inserted, divided};
+ghost use Rattle.row_places.specs.Places.{opened, raised, closed, put, inserted, divided};
 
 const ROW_SIZE: usize = 5;
 
@@ -20,18 +20,14 @@ fn open_place(t: &mut [u8])
     }
 }
 
-// Closes the first place of t: the bytes move up by five, and the last five become zero.
-pub fn close_place(t: &mut [u8])
+// The bytes of t move up by five, from the first down; the last five stay as they were.
+fn raise_bytes(t: &mut [u8])
     requires { ⌜ rowSize ≤ length (now t) ⌝ }
-    ensures { λ _. ⌜ now (t .exit) ≡ closed (now (t .entry)) ⌝ }
+    ensures { λ _. ⌜ now (t .exit) ≡ raised (now (t .entry)) ⌝ }
 {
     let mut i = 0;
-    while i < t.len() {
-        let mut byte = 0;
-        if i + ROW_SIZE < t.len() {
-            byte = t[i + ROW_SIZE];
-        }
-        t[i] = byte;
+    while i + ROW_SIZE < t.len() {
+        t[i] = t[i + ROW_SIZE];
         i += 1;
     }
 }
@@ -46,6 +42,16 @@ pub fn put_row(t: &mut [u8], row: [u8; 5])
         t[i] = row[i];
         i += 1;
     }
+}
+
+// Closes the first place of t: the places below move up by one, and the last becomes zero.
+pub fn close_place(t: &mut [u8])
+    requires { ⌜ rowSize ≤ length (now t) ⌝ }
+    ensures { λ _. ⌜ now (t .exit) ≡ closed (now (t .entry)) ⌝ }
+{
+    raise_bytes(t);
+    let last = t.len() - ROW_SIZE;
+    put_row(&mut t[last..], [0; ROW_SIZE]);
 }
 
 // The row comes in before the first place of t.
