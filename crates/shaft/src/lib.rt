@@ -14,7 +14,6 @@ ghost use Rattle.friction_table.specs.Printed.{Lent};
 ghost use Rattle.strata.specs.Good.{Good};
 ghost use Rattle.shaft.specs.Shafts.{cutOf, shaftOf, tableOf};
 use rules::Pile;
-use rules::Soil;
 
 const ROW_SIZE: usize = 5;
 
@@ -43,16 +42,12 @@ fn cut_along(
     let tip = pile.tip as u64;
     let mut used: usize = 0;
     let mut total: u64 = 0;
-    let mut soil = Soil {
-        kind: 0,
-        index: 0,
-        saturation: 0,
-    };
-    let mut bottom: u64 = 0;
     let mut at = pile.head as u64;
     // The row that comes next is read once, and kept until it joins.
     let mut next: usize = 0;
     let mut row = rows::read_row(log, 1);
+    let mut soil = soil_of(row);
+    let mut bottom: u64 = 0;
     while at < tip {
         if next < n {
             if joins(soil, bottom, at, row) {
