@@ -16,7 +16,7 @@ use Rattle.rules.specs.Ground.{Agree}
 use Rattle.rules.specs.Edits.{part, rowNamed, replacedLog, insertedLog, removedLog, splitLog}
 use Rattle.rules.proofs.RefusalLaws.{first-off, first-none, when-off, when-false}
 use Rattle.bits.specs.Fits.{Bytes}
-use Rattle.logs.proofs.RowsLaws.{rows-length}
+use Rattle.rules.proofs.Basics.{rows-length}
 use Rattle.edited.proofs.EditedLaws.{rows-replaced, rows-inserted, rows-removed, rows-split, length-replaced, length-inserted, length-removed, length-split}
 use Rattle.edited.proofs.UnusedLaws.{Filled, filled, unused-replaced, unused-inserted, unused-removed, unused-split}
 use Rattle.edited.proofs.RowListLaws.{Fit, fit-of, of-fit, fit-append, fit-take, fit-drop, fit-at, fit-part, fit-thickness, depth-append, depth-cons, depth-at, depth-split, split-agrees}

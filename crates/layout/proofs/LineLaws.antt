@@ -12,7 +12,7 @@ use Rattle.rules.specs.Sheet.{decimal, spaced, textLine}
 use Rattle.writing.specs.Text.{putAt, Put}
 use Rattle.layout.specs.Lines.{lineRoom, lineAfter, lineEnd, LinePut, Holds}
 use Rattle.writing.proofs.PutLaws.{put-then, put-one, take-put, length-put}
-use Rattle.writing.proofs.DigitLaws.{split}
+use Rattle.rules.proofs.Basics.{split}
 
 pub text-put : {buf : List ℕ} {at : ℕ} {word mid after : List ℕ} {place next : ℕ} (xs : List ℕ) → Put buf at word mid place → Put mid place (spaced xs) after next → Put buf at (textLine word xs) (set after next 10) (next + 1)
 text-put {after = after} {next = next} xs p q = put-then (put-then p q) (put-one after next 10)

@@ -17,16 +17,12 @@ use Rattle.rules.specs.Checks.{countWrong, unusedWrong, wrongField, firstWrong,
 use Rattle.rules.specs.Reading.{noLog, readLog}
 use Rattle.rules.specs.Limits.{rowLimit, logSize}
 use Rattle.rules.specs.Packed.{countOf, rowAt, rowsFrom, rowsOf, logOf, noRow}
+use Rattle.rules.proofs.Basics.{rows-length}
 use Rattle.bits.proofs.BitLaws.{Blank}
 use Rattle.logs.proofs.BlankLaws.{blank-from}
 use Rattle.logs.specs.Rows.{filled, rowsRead}
 use Rattle.replies.proofs.TestLaws.{either-false}
 use Rattle.rows.proofs.RowLaws.{row-blank}
-
-pub rows-length : (s : List ℕ) (at n : ℕ) → length (rowsFrom s at n) ≡ n
-unfolding rowsFrom
-rows-length s at zero = refl
-rows-length s at (suc n) = ap suc (rows-length s (at + 40) n)
 
 -- n rows and m more
 pub rows-more : (s : List ℕ) (at n m : ℕ) → rowsFrom s at (n + m) ≡ rowsFrom s at n ++ rowsFrom s (at + n * 40) m

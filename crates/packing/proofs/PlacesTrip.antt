@@ -12,7 +12,8 @@ use Rattle.rules.specs.Packed.{rowAt, rowsFrom, noRow, rowBytes, placesBytes}
 use Rattle.rules.specs.Reading.{rowZero, rowsZero}
 use Rattle.bits.proofs.Heads.{heads, front}
 use Rattle.bits.specs.Fits.{Bytes}
-use Rattle.logs.proofs.RowsLaws.{rows-length, rows-more}
+use Rattle.rules.proofs.Basics.{rows-length}
+use Rattle.logs.proofs.RowsLaws.{rows-more}
 use Rattle.packing.proofs.PassLaws.{AllFit}
 use Rattle.replies.proofs.TestLaws.{both-true}
 use Rattle.rows.proofs.PassLaws.{zero-is}

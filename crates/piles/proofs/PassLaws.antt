@@ -9,8 +9,7 @@ use Rattle.rules.specs.declared.Pile.{Pile}
 use Rattle.rules.specs.Base.{pick, neg, within, nothing, refuses, first, when}
 use Rattle.rules.specs.Checks.{aRight, bRight, wrongPart, sectionCheck, pileChecks}
 use Rattle.piles.specs.Fits.{PileFits}
-use Rattle.rules.proofs.RefusalLaws.{first-off, when-off}
-use Rattle.replies.proofs.PassLaws.{within-high}
+use Rattle.rules.proofs.RefusalLaws.{first-off, when-off, within-high}
 use Rattle.replies.proofs.TestLaws.{neg-false}
 
 -- the four tests of a pile record's section

@@ -11,10 +11,6 @@ both-true a b h = (both-left a b h, both-right a b h)
 pub either-false : (a b : Bool) → either a b ≡ false → (a ≡ false) × (b ≡ false)
 either-false a b h = (either-left a b h, either-right a b h)
 
-pub neg-true : (t : Bool) → neg t ≡ true → t ≡ false
-neg-true true h = cc
-neg-true false h = refl
-
 pub neg-false : (t : Bool) → neg t ≡ false → t ≡ true
 neg-false true h = refl
 neg-false false h = cc

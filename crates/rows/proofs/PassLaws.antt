@@ -11,7 +11,7 @@ use Rattle.rules.specs.Limits.{depthLimit}
 use Rattle.rules.specs.Packed.{noRow}
 use Rattle.rules.specs.Checks.{indexRight, wrongField}
 use Rattle.rules.specs.Reading.{rowZero}
-use Rattle.replies.proofs.PassLaws.{within-high}
+use Rattle.rules.proofs.RefusalLaws.{within-high}
 use Rattle.replies.proofs.TestLaws.{both-true}
 use Rattle.rows.specs.Fits.{RowFits}
 

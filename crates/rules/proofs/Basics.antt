@@ -1,13 +1,16 @@
--- Splits, and the laws of `same`: all that the rest knows of a soil.
+-- Splits, the laws of `same`, which are all that the rest knows of a soil, and how many rows are read.
 use mathlib.Core.Path.{_≡_, refl, sym, _∙_, ap}
 use mathlib.Core.Bool.{Bool, true, false, true≢false}
 use mathlib.Core.Logic.{_⊎_, inl, inr}
-use Prim.Native.Nat.{ℕ, _<_, _≤_}
+use mathlib.Core.List.{List}
+use Prim.Native.Nat.{ℕ, zero, suc, _+_, _<_, _≤_}
+use lib.ListN.{length}
 use lib.Dec.{ltb, eqb}
 use borrow.Author.Tests.{ltb-true, ltb-false, eqb-true, eq-eqb}
 use Rattle.rules.specs.Base.{both}
 use Rattle.rules.specs.declared.Soil.{Soil}
 use Rattle.rules.specs.Ground.{same}
+use Rattle.rules.specs.Packed.{rowsFrom}
 
 pub sure : (t : Bool) → (t ≡ true) ⊎ (t ≡ false)
 sure true = inl refl
@@ -44,3 +47,9 @@ same-eq s t e =
 
 pub same-of : (s t : Soil) → s ≡ t → same s t ≡ true
 same-of s t e = ap (λ (x : Soil). same s x) (sym e) ∙ same-refl s
+
+-- as many rows as are read
+pub rows-length : (s : List ℕ) (at n : ℕ) → length (rowsFrom s at n) ≡ n
+unfolding rowsFrom
+rows-length s at zero = refl
+rows-length s at (suc n) = ap suc (rows-length s (at + 40) n)

@@ -50,7 +50,7 @@ pub either-right : (a b : Bool) → either a b ≡ false → b ≡ false
 either-right true b e = absurd (true≢false e)
 either-right false b e = e
 
-neg-true : (t : Bool) → neg t ≡ true → t ≡ false
+pub neg-true : (t : Bool) → neg t ≡ true → t ≡ false
 neg-true true e = sym e
 neg-true false e = refl
 

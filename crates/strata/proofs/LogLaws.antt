@@ -11,6 +11,7 @@ use Rattle.rules.specs.Packed.{rowAt, rowsFrom, countOf, rowsOf}
 use Rattle.rules.specs.Checks.{depthOf}
 use Rattle.rules.specs.Ground.{soilAt}
 use Rattle.rules.specs.ByRows.{extent}
+use Rattle.rules.proofs.Basics.{rows-length}
 use Rattle.rules.proofs.GroundLaws.{soil-below}
 use Rattle.rules.proofs.RowLaws.{extent-below}
 use Rattle.strata.specs.Good.{Good}
@@ -24,11 +25,6 @@ from-row s at (suc n) (suc i) h =
     let e : at + 40 + i * 40 ≡ at + suc i * 40 = omega arith in
     from-row s (at + 40) n i (omega arith) ∙ ap (λ (p : ℕ). rowAt s p ∷ drop (suc i) (rowsFrom s (at + 40) n)) e
 
-rows-long : (s : List ℕ) (at n : ℕ) → length (rowsFrom s at n) ≡ n
-unfolding rowsFrom
-rows-long s at zero = refl
-rows-long s at (suc n) = ap suc (rows-long s (at + 40) n)
-
 -- a row read at its place in the log is the next of the rows
 pub row-left : (s : List ℕ) (i : ℕ) (r : Row) → i < countOf s → r ≡ rowAt s ((1 + i * rowSize) * 8) → drop i (rowsOf s) ≡ r ∷ drop (i + 1) (rowsOf s)
 unfolding rowsOf
@@ -38,7 +34,7 @@ row-left s i r h e =
 
 pub none-left : (s : List ℕ) (i : ℕ) → countOf s ≤ i → drop i (rowsOf s) ≡ []
 unfolding rowsOf
-none-left s i h = let k : length (rowsFrom s 8 (countOf s)) ≤ i = omega (arith, rows-long s 8 (countOf s)) in drop-of-length-le (rowsFrom s 8 (countOf s)) k
+none-left s i h = let k : length (rowsFrom s 8 (countOf s)) ≤ i = omega (arith, rows-length s 8 (countOf s)) in drop-of-length-le (rowsFrom s 8 (countOf s)) k
 
 -- the rows above and the rows below are all the rows
 pub deep-split : (i : ℕ) (rs : List Row) → depthOf (take i rs) + depthOf (drop i rs) ≡ depthOf rs

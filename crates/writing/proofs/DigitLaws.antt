@@ -1,24 +1,16 @@
 -- Laws of decimal digits: how many there are, that they read back to the number, and that none leads in vain.
 use mathlib.Core.Path.{_≡_, refl, sym, subst, _∙_, ap}
-use mathlib.Core.Bool.{Bool, true, false}
-use mathlib.Core.Logic.{_⊎_, inl, inr, ⊎-elim}
+use mathlib.Core.Logic.{⊎-elim}
 use mathlib.Core.List.{List, [], _∷_, _++_}
 use Prim.Native.Nat.{ℕ, zero, suc, _+_, _*_, _-_, _/_, _%_, _^_, _<_, _≤_}
 use native.Mathlib.Omega.{arith}
-use lib.Dec.{ltb}
 use lib.ListN.{length, getD, set, length-append, List·getD-append}
-use borrow.Author.Tests.{ltb-true, ltb-false, lt-ltb, le-ltb}
+use borrow.Author.Tests.{lt-ltb, le-ltb}
 use Rattle.rules.specs.Sheet.{digitsFrom, decimal}
+use Rattle.rules.proofs.Basics.{split}
 use Rattle.writing.specs.Text.{putAt, Put}
 use Rattle.writing.specs.Digits.{lastDigits, readFrom, valueOf}
 use Rattle.writing.proofs.PutLaws.{put-nil, put-last}
-
-pub split : (a b : ℕ) → (a < b) ⊎ (b ≤ a)
-split a b = go (ltb a b) refl
-  where
-    go : (t : Bool) → ltb a b ≡ t → (a < b) ⊎ (b ≤ a)
-    go true e = inl (ltb-true a b e)
-    go false e = inr (ltb-false a b e)
 
 -- the definition's two cases
 digits-one : (n x : ℕ) → x < 10 → digitsFrom n x ≡ (48 + x) ∷ []
