@@ -1,11 +1,4 @@
 // A bit reader and a bit writer by value: each call hands back the moved cursor with its value.
-mod copy;
-mod word;
-
-pub use copy::copy_in;
-pub use word::bytes_of;
-pub use word::five_of;
-pub use word::word_of;
 ghost use mathlib.Core.Path.{_≡_};
 ghost use Prim.Native.Nat.{_+_, _^_, _≤_, _<_};
 ghost use Rattle.bits.specs.Word.{Taken, Written};

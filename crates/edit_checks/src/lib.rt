@@ -54,7 +54,7 @@ fn new_row_refusal(kind: u32, k: u32, row: &[u8]) -> Refusal
     if !naming::brings(kind) {
         return replies::refuse(0);
     }
-    let f = rows::row_field(rows::read_row(row, 0));
+    let f = row_ranges::row_field(rows::read_row(row, 0));
     if 0 < f {
         return Refusal {
             number: 3,

@@ -1,8 +1,8 @@
 // Reading a log and checking it: its count and its 64 row places, in 321 bytes.
 use replies::refuse;
+use row_ranges::row_field;
 use rows::no_row;
 use rows::read_row;
-use rows::row_field;
 use rules::Log;
 use rules::LogRead;
 use rules::Refusal;

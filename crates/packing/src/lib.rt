@@ -1,13 +1,13 @@
 // Packing a log: its checks, and its count and 64 row places as 321 bytes.
-use bits::copy_in;
 use logs::count_wrong;
 use replies::first;
 use replies::refuse;
+use row_ranges::row_field;
+use row_ranges::row_zero;
 use rows::row_bytes;
-use rows::row_field;
-use rows::row_zero;
 use rules::Log;
 use rules::Refusal;
+use words::copy_in;
 ghost use mathlib.Core.Path.{_≡_};
 ghost use Prim.Native.Nat.{min};
 ghost use lib.ListN.{length, take, drop};

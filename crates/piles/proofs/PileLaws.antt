@@ -88,14 +88,6 @@ pile-taken s k {p₂ = p₂} {p₃ = p₃} {p₄ = p₄} {p₅ = p₅} {p₆ = p
     let p₆″ : p₆ ≡ 60 = omega arith in
     cc (word-pile s k)
 
-pub section-wrong : (p : Pile) (f : ℕ) → f ≡ wrongPart p → 0 < f → _≡_ {A = Refusal} (record { number = 5; row = 0; field = f }) (sectionCheck p)
-unfolding sectionCheck
-section-wrong p f e h = rw (← e, lt-ltb _ _ h)
-
-pub section-right : (p : Pile) (f : ℕ) → f ≡ wrongPart p → f ≤ 0 → refuse 0 ≡ sectionCheck p
-unfolding sectionCheck
-section-right p f e h = rw (← e, le-ltb _ _ h)
-
 -- a refused reading
 abbrev pub no : Refusal → PileRead
 no r = record { refusal = r; pile = noPile }

@@ -91,6 +91,6 @@ pub(crate) fn pack_row(given: [u8; 600]) {
     let r = row_given(given, 0);
     io::write_all(STDOUT_FILENO, b"packrow");
     bytes(&rows::row_bytes(r));
-    number(rows::row_field(r) as u64);
+    number(row_ranges::row_field(r) as u64);
     end_line();
 }

@@ -65,7 +65,7 @@ pub(crate) fn read_row(s: &[u8], i: u16) {
     let r = rows::read_row(s, i as usize);
     io::write_all(STDOUT_FILENO, b"row");
     row(r);
-    number(rows::row_field(r) as u64);
+    number(row_ranges::row_field(r) as u64);
     bytes(&rows::row_bytes(r));
     end_line();
 }

@@ -1,18 +1,13 @@
-// A row of a log: its five fields, their ranges, and its five bytes.
+// A row of a log: its five fields from its five bytes and back.
 use bits::Cursor;
-use bits::bytes_of;
-use bits::five_of;
 use bits::put_bits;
 use bits::take_bits;
-use replies::in_range;
 use rules::Row;
+use words::bytes_of;
+use words::five_of;
 ghost use mathlib.Core.Path.{_≡_};
 ghost use Prim.Native.Nat.{_*_};
 ghost use Rattle.rules.specs.Packed.{rowAt, noRow, rowBytes};
-ghost use Rattle.rules.specs.Checks.{indexRight, wrongField};
-ghost use Rattle.rules.specs.Reading.{rowZero};
-
-const DEPTH_LIMIT: u16 = 60000;
 
 // Where the five bytes of a row begin in a word.
 const ROW_START: usize = 24;
@@ -59,57 +54,6 @@ pub fn read_row(s: &[u8], i: usize) -> Row
         return no_row();
     }
     take_row(&s[i..])
-}
-
-fn index_right(kind: u8, index: u8) -> bool
-    ensures { λ r. ⌜ r ≡ indexRight kind index ⌝ }
-{
-    if kind <= 3 {
-        index == 100
-    } else {
-        index <= 200
-    }
-}
-
-// Whether every field is 0, as in an unused place.
-pub fn row_zero(r: Row) -> bool
-    ensures { λ z. ⌜ z ≡ rowZero r ⌝ }
-{
-    if r.thickness != 0 {
-        return false;
-    }
-    if r.kind != 0 {
-        return false;
-    }
-    if r.index != 0 {
-        return false;
-    }
-    if r.saturation != 0 {
-        return false;
-    }
-    r.zero == 0
-}
-
-// The lowest field out of range, 0 where there is none.
-pub fn row_field(r: Row) -> u32
-    ensures { λ f. ⌜ f ≡ wrongField r ⌝ }
-{
-    if !in_range(1, DEPTH_LIMIT, r.thickness) {
-        return 1;
-    }
-    if !in_range(1, 6, r.kind as u16) {
-        return 2;
-    }
-    if !index_right(r.kind, r.index) {
-        return 3;
-    }
-    if 100 < r.saturation {
-        return 4;
-    }
-    if r.zero != 0 {
-        return 5;
-    }
-    0
 }
 
 // The five bytes of a row; a field of more bits than its place is carried into the field before.

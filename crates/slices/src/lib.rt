@@ -1,11 +1,11 @@
 // A place of a slice table: its four fields and its seven bytes.
 use bits::Cursor;
-use bits::bytes_of;
 use bits::put_bits;
 use bits::take_bits;
-use bits::word_of;
 use rules::Slice;
 use rules::SliceRead;
+use words::bytes_of;
+use words::word_of;
 ghost use mathlib.Core.Path.{_≡_};
 ghost use Rattle.rules.specs.Packed.{sliceAt, sliceBytes};
 ghost use Rattle.rules.specs.Reading.{readSlice, noSlice};

@@ -1,0 +1,18 @@
+-- `pile_ranges::b_right` meets its contract.
+use mathlib.Core.Path.{_∙_}
+use borrow.Author.Tests.{eq-eqb, ne-eqb}
+use borrow.Author.Needs.{needs}
+use Rattle.pile_ranges.proofs.b_right.Statement.{statement}
+use Rattle.pile_ranges.proofs.b_right.Tie as tie
+
+in-range-requires : tie.Need-in-range-requires
+in-range-requires c κs = search needs
+
+returns : tie.Need-returns
+returns c = simp (eq-eqb _ _ (c .before .if1 .taken))
+
+returns-2 : tie.Need-returns-2
+returns-2 c = c .in-range .ensures ∙ simp (ne-eqb _ _ (c .before .if1 .left))
+
+pub b-right-spec : {M : Type 1} → statement M
+b-right-spec = tie.close (tie.spec in-range-requires returns returns-2)
