@@ -2,8 +2,8 @@
 use cuts::PLACES;
 use cuts::clear_table;
 use cuts::cut_slice;
-use strata::joins;
-use strata::soil_of;
+use soils::joins;
+use soils::soil_of;
 ghost use mathlib.Core.Path.{_≡_};
 ghost use Prim.Native.Nat.{_<_, _≤_};
 ghost use lib.ListN.{length};

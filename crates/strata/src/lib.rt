@@ -1,15 +1,13 @@
-// The strata along a log's rows: what parts two of them, and the one that holds a millimetre.
+// The stratum that holds a millimetre, along a log's rows.
 ghost use mathlib.Core.Path.{_≡_};
 ghost use Prim.Native.Nat.{_<_};
-ghost use lib.Dec.{leb};
-ghost use Rattle.rules.specs.Base.{either};
 ghost use Rattle.rules.specs.Checks.{depthOf};
-ghost use Rattle.rules.specs.Ground.{same, soilOf};
 ghost use Rattle.rules.specs.Packed.{rowsOf};
 ghost use Rattle.strata.specs.Good.{Good};
 ghost use Rattle.strata.specs.Strata.{Holds, stratumAt};
-use rules::Row;
 use rules::Soil;
+use soils::same_soil;
+use soils::soil_of;
 
 const ROW_SIZE: usize = 5;
 
@@ -17,38 +15,6 @@ const ROW_SIZE: usize = 5;
 pub struct Stratum {
     pub soil: Soil,
     pub top: u64,
-}
-
-pub fn soil_of(r: Row) -> Soil
-    ensures { λ s. ⌜ s ≡ soilOf r ⌝ }
-{
-    Soil {
-        kind: r.kind,
-        index: r.index,
-        saturation: r.saturation,
-    }
-}
-
-pub fn same_soil(s: Soil, t: Soil) -> bool
-    ensures { λ r. ⌜ r ≡ same s t ⌝ }
-{
-    if s.kind != t.kind {
-        return false;
-    }
-    if s.index != t.index {
-        return false;
-    }
-    s.saturation == t.saturation
-}
-
-// Whether row r goes to the open stratum, of this soil down to bottom: it has the same soil, or the stratum lies above depth at.
-pub fn joins(soil: Soil, bottom: u64, at: u64, r: Row) -> bool
-    ensures { λ t. ⌜ t ≡ either (leb bottom at) (same soil (soilOf r)) ⌝ }
-{
-    if bottom <= at {
-        return true;
-    }
-    same_soil(soil, soil_of(r))
 }
 
 // The row that holds a millimetre, counted from 0, and its top.

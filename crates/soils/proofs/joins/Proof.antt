@@ -1,9 +1,9 @@
--- `strata::joins` meets its contract.
+-- `soils::joins` meets its contract.
 use mathlib.Core.Path.{_∙_, ap}
 use borrow.Author.Tests.{le-leb, lt-leb}
 use Rattle.rules.specs.Ground.{same}
-use Rattle.strata.proofs.joins.Statement.{statement}
-use Rattle.strata.proofs.joins.Tie as tie
+use Rattle.soils.proofs.joins.Statement.{statement}
+use Rattle.soils.proofs.joins.Tie as tie
 
 returns : tie.Need-returns
 returns c = rw (le-leb _ _ (c .if1 .taken))

@@ -1,7 +1,7 @@
--- `strata::soil_of` meets its contract.
+-- `soils::soil_of` meets its contract.
 use mathlib.Core.Path.{refl}
-use Rattle.strata.proofs.soil_of.Statement.{statement}
-use Rattle.strata.proofs.soil_of.Tie as tie
+use Rattle.soils.proofs.soil_of.Statement.{statement}
+use Rattle.soils.proofs.soil_of.Tie as tie
 
 returns : tie.Need-returns
 returns c = refl

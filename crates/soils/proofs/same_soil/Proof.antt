@@ -1,8 +1,8 @@
--- `strata::same_soil` meets its contract: the first field that differs decides.
+-- `soils::same_soil` meets its contract: the first field that differs decides.
 use borrow.Author.Tests.{eq-eqb, ne-eqb}
 use Rattle.rules.specs.Ground.{same}
-use Rattle.strata.proofs.same_soil.Statement.{statement}
-use Rattle.strata.proofs.same_soil.Tie as tie
+use Rattle.soils.proofs.same_soil.Statement.{statement}
+use Rattle.soils.proofs.same_soil.Tie as tie
 
 returns : tie.Need-returns
 unfolding same
