@@ -18,43 +18,11 @@ use Rattle.rules.proofs.RefusalLaws.{first-left, first-right, first-off, when-o
 use Rattle.replies.proofs.PassLaws.{right-long}
 use Rattle.replies.proofs.TestLaws.{neg-false}
 use Rattle.logs.specs.declared.Checked.{Checked}
-use Rattle.logs.specs.Checks.{checkedBy, checkedLog, earlyChecks, deepChecked, rowsChecked}
+use Rattle.frames.specs.Frame.{earlyChecks}
+use Rattle.frames.proofs.FrameLaws.{Framed}
+use Rattle.logs.specs.Checks.{checkedBy, checkedLog, deepChecked, rowsChecked}
 use Rattle.logs.specs.Rows.{rowsRead}
 use Rattle.logs.proofs.RowsLaws.{no, rows-read, row-here, left-row, wrong-here, wrong-below}
-
-pub early-long : (s : List ℕ) → (length s ≡ logSize → ⊥) → refuse 1 ≡ earlyChecks s
-unfolding earlyChecks first when
-early-long s h = rw (ne-eqb _ _ h)
-
-pub early-count : (s : List ℕ) → length s ≡ logSize → countWrong (countOf s) ≡ true → refuse 2 ≡ earlyChecks s
-unfolding earlyChecks unusedWrong first when
-early-count s h w = rw (eq-eqb _ _ h, w)
-
-pub early-unused : (s : List ℕ) → length s ≡ logSize → countWrong (countOf s) ≡ false → allZero (drop (1 + countOf s * 5) s) ≡ false → refuse 2 ≡ earlyChecks s
-unfolding earlyChecks unusedWrong first when
-early-unused s h w b = rw (eq-eqb _ _ h, w, b)
-
-pub early-right : (s : List ℕ) → length s ≡ logSize → countWrong (countOf s) ≡ false → allZero (drop (1 + countOf s * 5) s) ≡ true → refuse 0 ≡ earlyChecks s
-unfolding earlyChecks unusedWrong first when
-early-right s h w b = rw (eq-eqb _ _ h, w, b)
-
--- what is known where checks 1 and 2 pass
-pub record Framed (s : List ℕ) : Type 0 where
-  pub long : length s ≡ logSize
-  pub count : countWrong (countOf s) ≡ false
-  pub blank : allZero (drop (1 + countOf s * 5) s) ≡ true
-
-pub early-passed : (s : List ℕ) (n : ℕ) → refuse n ≡ earlyChecks s → n ≤ 0 → Framed s
-unfolding earlyChecks unusedWrong
-early-passed s n e h =
-    let k = first-off (when (longOther logSize s) 1) (when (unusedWrong s) 2) (ap refuses (sym e) ∙ le-ltb 0 n h) in
-    let w = when-off 1 (unusedWrong s) (k .1) in
-    let b = allZero (drop (1 + countOf s * 5) s) in
-    record {
-      long = right-long logSize s (k .0);
-      count = either-left (countWrong (countOf s)) (neg b) w;
-      blank = neg-false b (either-right (countWrong (countOf s)) (neg b) w);
-    }
 
 -- checks 1 and 2, then one more
 then : (a b c : Refusal) → first a (first b c) ≡ first (first a b) c

@@ -1,4 +1,3 @@
--- Laws of the rows of a log and of its unused places.
-pub mod BlankLaws
+-- Laws of the rows of a log.
 pub mod CheckLaws
 pub mod RowsLaws

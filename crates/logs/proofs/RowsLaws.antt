@@ -19,7 +19,7 @@ use Rattle.rules.specs.Limits.{rowLimit, logSize}
 use Rattle.rules.specs.Packed.{countOf, rowAt, rowsFrom, rowsOf, logOf, noRow}
 use Rattle.rules.proofs.Basics.{rows-length}
 use Rattle.bits.proofs.BitLaws.{Blank}
-use Rattle.logs.proofs.BlankLaws.{blank-from}
+use Rattle.frames.proofs.BlankLaws.{blank-from}
 use Rattle.logs.specs.Rows.{filled, rowsRead}
 use Rattle.replies.proofs.TestLaws.{either-false}
 use Rattle.rows.proofs.RowLaws.{row-blank}

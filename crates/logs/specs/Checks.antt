@@ -19,10 +19,6 @@ checkedLog s =
     let r = first (when (longOther logSize s) 1) (logChecks s) in
     checkedBy r (depthOf (rowsOf s))
 
--- 1 and 2
-unfoldable pub earlyChecks : List ℕ → Refusal
-earlyChecks s = first (when (longOther logSize s) 1) (when (unusedWrong s) 2)
-
 -- 4, of rows that are d deep
 unfoldable pub deepChecked : ℕ → Checked
 deepChecked d = checkedBy (when (ltb depthLimit d) 4) d

@@ -1,4 +1,5 @@
 // Reading a log and checking it: its count and its 64 row places, in 321 bytes.
+use frames::early_refusal;
 use replies::refuse;
 use row_ranges::row_field;
 use rows::no_row;
@@ -8,20 +9,14 @@ use rules::LogRead;
 use rules::Refusal;
 ghost use mathlib.Core.Path.{_≡_};
 ghost use Prim.Native.Nat.{_≤_};
-ghost use lib.ListN.{drop};
-ghost use Rattle.rules.specs.Base as base;
-ghost use Rattle.rules.specs.Base.{allZero};
 ghost use Rattle.rules.specs.Limits.{rowLimit};
-ghost use Rattle.rules.specs.Checks.{countWrong};
 ghost use Rattle.rules.specs.Reading.{noLog, readLog};
 ghost use Rattle.logs.specs.Rows.{rowsRead};
-ghost use Rattle.logs.specs.Checks.{earlyChecks, deepChecked, rowsChecked, checkedLog};
+ghost use Rattle.logs.specs.Checks.{deepChecked, rowsChecked, checkedLog};
 
 const ROW_LIMIT: usize = 64;
 
 const ROW_SIZE: usize = 5;
-
-const LOG_SIZE: usize = 1 + ROW_LIMIT * ROW_SIZE;
 
 const DEPTH_LIMIT: u64 = 60000;
 
@@ -42,45 +37,6 @@ fn no_log(r: Refusal) -> LogRead
         refusal: r,
         log: none,
     }
-}
-
-// Whether the bytes from `from` on are all zero: they are joined bit by bit, with no test in between.
-fn blank_from(s: &[u8], from: usize) -> bool
-    ensures { λ r. ⌜ r ≡ allZero (drop from (now (s .entry))) ⌝ }
-{
-    let mut any: u8 = 0;
-    let mut i = from;
-    while i < s.len() {
-        any = any | s[i];
-        i += 1;
-    }
-    any == 0
-}
-
-pub fn count_wrong(n: u8) -> bool
-    ensures { λ r. ⌜ r ≡ countWrong n ⌝ }
-{
-    if n == 0 {
-        return true;
-    }
-    ROW_LIMIT < n as usize
-}
-
-// Checks 1 and 2: the number of the first that refuses, or 0.
-fn early_refusal(s: &[u8]) -> u32
-    ensures { λ r. ⌜ base.refuse r ≡ earlyChecks (now (s .entry)) ⌝ }
-{
-    if s.len() != LOG_SIZE {
-        return 1;
-    }
-    let n = s[0];
-    if count_wrong(n) {
-        return 2;
-    }
-    if !blank_from(s, 1 + n as usize * ROW_SIZE) {
-        return 2;
-    }
-    0
 }
 
 // The first n rows, each checked as it is read.

@@ -14,7 +14,7 @@ use Rattle.rules.specs.Packed.{rowsFrom, placesBytes, countOf, logOf, logBytes}
 use Rattle.rules.specs.Checks.{longOther, countWrong, firstWrong, fieldChecks}
 use Rattle.rules.specs.Reading.{rowsZero, unusedFields, readLog, packLogCheck}
 use Rattle.bits.specs.Fits.{Bytes}
-use Rattle.logs.proofs.BlankLaws.{blank-from}
+use Rattle.frames.proofs.BlankLaws.{blank-from}
 use Rattle.logs.proofs.RowsLaws.{all-places, count-right, rows-read}
 use Rattle.logs.specs.Rows.{filled, rowsRead}
 use Rattle.packing.proofs.PackLaws.{places-length}

@@ -1,5 +1,5 @@
 // Packing a log: its checks, and its count and 64 row places as 321 bytes.
-use logs::count_wrong;
+use frames::count_wrong;
 use replies::first;
 use replies::refuse;
 use row_ranges::row_field;

@@ -2,7 +2,8 @@
 use mathlib.Core.Path.{ap, _∙_}
 use native.Mathlib.Omega.{arith}
 use Rattle.rules.specs.declared.Refusal.{Refusal}
-use Rattle.logs.proofs.CheckLaws.{early-passed, early-checked, framed-checked}
+use Rattle.frames.proofs.FrameLaws.{early-passed}
+use Rattle.logs.proofs.CheckLaws.{early-checked, framed-checked}
 use Rattle.logs.proofs.RowsLaws.{count-right}
 use borrow.Author.Needs.{needs}
 use Rattle.logs.proofs.check_log.Statement.{statement}

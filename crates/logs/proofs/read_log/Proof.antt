@@ -1,7 +1,8 @@
 -- `logs::read_log` meets its contract.
 use mathlib.Core.Path.{ap, _∙_}
 use native.Mathlib.Omega.{arith}
-use Rattle.logs.proofs.CheckLaws.{early-passed, early-read, framed-read}
+use Rattle.frames.proofs.FrameLaws.{early-passed}
+use Rattle.logs.proofs.CheckLaws.{early-read, framed-read}
 use Rattle.logs.proofs.RowsLaws.{no, count-right}
 use borrow.Author.Needs.{needs}
 use Rattle.logs.proofs.read_log.Statement.{statement}

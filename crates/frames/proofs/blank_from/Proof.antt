@@ -1,11 +1,11 @@
--- `logs::blank_from` meets its contract.
+-- `frames::blank_from` meets its contract.
 use mathlib.Core.Path.{refl}
 use Prim.Native.Nat.{_-_}
 use lib.ListN.{length}
-use Rattle.logs.proofs.BlankLaws.{Joined, joined-more, joined-end}
+use Rattle.frames.proofs.BlankLaws.{Joined, joined-more, joined-end}
 use borrow.Author.Needs.{needs}
-use Rattle.logs.proofs.blank_from.Statement.{statement}
-use Rattle.logs.proofs.blank_from.Tie as tie
+use Rattle.frames.proofs.blank_from.Statement.{statement}
+use Rattle.frames.proofs.blank_from.Tie as tie
 
 abbrev Inv-loop : tie.InvT-loop
 Inv-loop s from any₀ i₀ any i = Joined s from any i

@@ -1,7 +1,7 @@
--- `logs::count_wrong` meets its contract.
+-- `frames::count_wrong` meets its contract.
 use borrow.Author.Tests.{eq-eqb, ne-eqb}
-use Rattle.logs.proofs.count_wrong.Statement.{statement}
-use Rattle.logs.proofs.count_wrong.Tie as tie
+use Rattle.frames.proofs.count_wrong.Statement.{statement}
+use Rattle.frames.proofs.count_wrong.Tie as tie
 
 returns : tie.Need-returns
 returns c = rw (eq-eqb _ _ (c .if1 .taken))

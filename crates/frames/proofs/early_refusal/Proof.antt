@@ -1,11 +1,11 @@
--- `logs::early_refusal` meets its contract.
+-- `frames::early_refusal` meets its contract.
 use mathlib.Core.Path.{sym, _∙_}
 use native.Mathlib.Omega.{arith}
 use borrow.Author.Tests.{not-true, not-false}
-use Rattle.logs.proofs.CheckLaws.{early-long, early-count, early-unused, early-right}
+use Rattle.frames.proofs.FrameLaws.{early-long, early-count, early-unused, early-right}
 use borrow.Author.Needs.{needs}
-use Rattle.logs.proofs.early_refusal.Statement.{statement}
-use Rattle.logs.proofs.early_refusal.Tie as tie
+use Rattle.frames.proofs.early_refusal.Statement.{statement}
+use Rattle.frames.proofs.early_refusal.Tie as tie
 
 returns : tie.Need-returns
 returns c = early-long _ (c .if1 .taken)

@@ -1,0 +1,2 @@
+-- What the checks of a log's frame come to.
+pub mod Frame
