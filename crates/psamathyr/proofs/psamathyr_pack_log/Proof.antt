@@ -9,19 +9,15 @@ use Rattle.psamathyr.proofs.psamathyr_pack_log.Lts as lts
 use Rattle.replies.proofs.refused.Reads as refused-reads
 use Rattle.packing.proofs.pack_log.Reads as pack-log-reads
 
--- src/lib.rt:30:12
 pack-log-requires : tie.Need-pack-log-requires
 pack-log-requires c κs = search needs
 
--- src/lib.rt:30:5
 refused-requires : tie.Need-refused-requires
 refused-requires c κs = search needs
 
--- src/lib.rt:24:1
 same-length : tie.Need-same-length
 same-length c = search needs
 
--- src/lib.rt:24:1
 returns : tie.Need-returns
 returns c = (c .refused .ensures ∙ ap refused (c .before .before .before .pack-log .ensures .0), c .before .before .before .pack-log .ensures .1)
 

@@ -9,19 +9,15 @@ use Rattle.psamathyr.proofs.psamathyr_pack_pile.Lts as lts
 use Rattle.replies.proofs.refused.Reads as refused-reads
 use Rattle.piles.proofs.pack_pile.Reads as pack-pile-reads
 
--- src/lib.rt:47:12
 pack-pile-requires : tie.Need-pack-pile-requires
 pack-pile-requires c κs = search needs
 
--- src/lib.rt:47:5
 refused-requires : tie.Need-refused-requires
 refused-requires c κs = search needs
 
--- src/lib.rt:41:1
 same-length : tie.Need-same-length
 same-length c = search needs
 
--- src/lib.rt:41:1
 returns : tie.Need-returns
 returns c = (c .refused .ensures ∙ ap refused (c .before .before .before .pack-pile .ensures .0), c .before .before .before .pack-pile .ensures .1)
 
