@@ -1,7 +1,7 @@
 // The plain calculation: checks 1 to 4, then what is worked out.
-use cuts::TABLE_SIZE;
 use replies::refuse;
 use replies::refused;
+use slice_table::TABLE_SIZE;
 ghost use mathlib.Core.Path.{_≡_};
 ghost use Rattle.rules.specs.Calculation.{calculated, tableAfter};
 use rules::Answer;

@@ -1,3 +1,2 @@
--- Laws of one slice and of the table.
+-- Laws of one slice.
 pub mod SliceLaws
-pub mod TableLaws

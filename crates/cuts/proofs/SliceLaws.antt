@@ -1,5 +1,6 @@
 -- One slice: its fields as they are read, and its part of the sum.
 use mathlib.Core.Path.{_≡_, _∙_, ap}
+use mathlib.Core.List.{List, [], _∷_, _++_}
 use Prim.Native.Nat.{ℕ, _+_, _*_, _-_, _≤_, min}
 use native.Mathlib.Nat.{mul-le-mul, mul-le-mul-right}
 use native.Mathlib.Omega.{arith}
@@ -7,7 +8,7 @@ use Rattle.rules.specs.declared.Soil.{Soil}
 use Rattle.rules.specs.declared.Pile.{Pile}
 use Rattle.rules.specs.declared.Slice.{Slice}
 use Rattle.rules.specs.Limits.{sliceLimit}
-use Rattle.rules.specs.Numbers.{friction, factor, sliceOf}
+use Rattle.rules.specs.Numbers.{friction, factor, sliceOf, total}
 use Rattle.cuts.specs.declared.Cut.{Cut}
 use Rattle.cuts.specs.Cuts.{sliceHere, Read, Weighed, Done}
 
@@ -34,3 +35,9 @@ done c r w e y = record {
   fits = rw (e .is) at (e .fields .thickness);
   weight = rw (e .is) at y;
 }
+
+-- one slice more in the sum
+pub total-more : (cs : List Slice) (c : Slice) → total (cs ++ (c ∷ [])) ≡ total cs + c .friction * c .thickness * c .factor
+unfolding total
+total-more [] c = omega arith
+total-more (x ∷ cs) c = omega (arith, total-more cs c)

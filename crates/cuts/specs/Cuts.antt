@@ -1,13 +1,10 @@
--- One slice of the shaft, said of millimetres: what it is, what is told of it, and a table with it.
+-- One slice of the shaft, said of millimetres: what it is, and what is told of it.
 use mathlib.Core.Path.{_≡_}
-use mathlib.Core.List.{List, _++_}
-use Prim.Native.Nat.{ℕ, _+_, _*_, _-_, _≤_, min}
-use lib.ListN.{take, drop}
+use Prim.Native.Nat.{ℕ, _*_, _-_, _≤_, min}
 use Rattle.rules.specs.declared.Soil.{Soil}
 use Rattle.rules.specs.declared.Pile.{Pile}
 use Rattle.rules.specs.declared.Slice.{Slice}
-use Rattle.rules.specs.Limits.{sliceSize, sliceLimit}
-use Rattle.rules.specs.Packed.{sliceBytes}
+use Rattle.rules.specs.Limits.{sliceLimit}
 use Rattle.rules.specs.Pieces.{piece}
 use Rattle.rules.specs.Numbers.{sliceOf}
 use Rattle.cuts.specs.declared.Cut.{Cut}
@@ -15,10 +12,6 @@ use Rattle.cuts.specs.declared.Cut.{Cut}
 -- the slice that begins at depth at, in a stratum of soil s down to bottom
 abbrev pub sliceHere : Pile → Soil → ℕ → ℕ → Slice
 sliceHere p s at bottom = sliceOf p (piece at (min (min sliceLimit (p .tip - at)) (bottom - at)) s)
-
--- a table with slice c in place n
-unfoldable pub putAt : List ℕ → ℕ → Slice → List ℕ
-putAt t n c = take (n * sliceSize) t ++ sliceBytes c ++ drop (n * sliceSize + sliceSize) t
 
 -- a slice whose numbers fit their bits in a table
 pub record Fields (c : Slice) : Type 0 where

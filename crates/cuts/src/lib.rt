@@ -1,16 +1,12 @@
 // One slice of the shaft: how thick it is, its friction and factor, its place in the lent table, and its part of the sum.
-mod table;
-
-pub use table::PLACES;
-pub use table::TABLE_SIZE;
-pub use table::clear_table;
-use table::put_slice;
+use slice_table::put_slice;
 ghost use mathlib.Core.Path.{_≡_};
 ghost use Prim.Native.Nat.{_<_, min};
 ghost use lib.ListN.{length};
 ghost use Rattle.rules.specs.Limits.{placeLimit, tableSize};
 ghost use Rattle.friction_table.specs.Printed.{Lent};
-ghost use Rattle.cuts.specs.Cuts.{sliceHere, putAt, Fields, Read, Weighed, Done};
+ghost use Rattle.slice_table.specs.Table.{putAt};
+ghost use Rattle.cuts.specs.Cuts.{sliceHere, Fields, Read, Weighed, Done};
 use rules::Pile;
 use rules::Slice;
 use rules::Soil;

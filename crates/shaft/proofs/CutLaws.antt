@@ -22,10 +22,12 @@ use Rattle.rules.specs.ByRows.{Positive, thickAt}
 use Rattle.rules.proofs.RowLaws.{next}
 use Rattle.shaft.specs.declared.Shaft.{Shaft}
 use Rattle.cuts.specs.declared.Cut.{Cut}
-use Rattle.cuts.specs.Cuts.{sliceHere, putAt, Done}
+use Rattle.cuts.specs.Cuts.{sliceHere, Done}
+use Rattle.slice_table.specs.Table.{putAt}
 use Rattle.shaft.specs.Shafts.{cutOf, noShaft, shaftOf, tableOf}
 use Rattle.shaft.proofs.StratumLaws.{Whole}
-use Rattle.cuts.proofs.TableLaws.{Filled, filled-long, filled-more, total-more}
+use Rattle.cuts.proofs.SliceLaws.{total-more}
+use Rattle.slice_table.proofs.TableLaws.{Filled, filled-long, filled-more}
 
 module _ (l : List Slice) (k : ℕ) (x : Slice) (r : List Slice) (e : drop k l ≡ x ∷ r) where
   head-in : k < length l

@@ -1,7 +1,7 @@
 // The shaft cut into slices: from the head down along the strata, each slice put into its place of the lent table.
-use cuts::PLACES;
-use cuts::clear_table;
 use cuts::cut_slice;
+use slice_table::PLACES;
+use slice_table::clear_table;
 use soils::joins;
 use soils::soil_of;
 ghost use mathlib.Core.Path.{_≡_};

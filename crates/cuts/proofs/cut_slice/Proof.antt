@@ -2,7 +2,7 @@
 use borrow.Author.Needs.{needs}
 use mathlib.Core.Path.{_∙_, ap}
 use Rattle.rules.specs.declared.Slice.{Slice}
-use Rattle.cuts.specs.Cuts.{putAt}
+use Rattle.slice_table.specs.Table.{putAt}
 use Rattle.cuts.proofs.SliceLaws.{done}
 use Rattle.cuts.proofs.cut_slice.Statement.{statement}
 use Rattle.cuts.proofs.cut_slice.Tie as tie

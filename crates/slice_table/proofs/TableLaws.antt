@@ -1,4 +1,4 @@
--- The table while it is filled: cleared, then seven bytes a slice, in order, and zeros behind them; and the sum.
+-- The table while it is filled: cleared, then seven bytes a slice, in order, and zeros behind them.
 use mathlib.Core.Path.{_≡_, refl, sym, _∙_, ap, ap₂}
 use mathlib.Core.List.{List, [], _∷_, _++_, append-assoc, append-nil}
 use Prim.Native.Nat.{ℕ, suc, _+_, _*_, _-_, _<_, _≤_}
@@ -7,10 +7,9 @@ use native.Mathlib.Numerals.{add-one}
 use lib.ListN.{length, take, drop, getD, set, replicate, length-append, length-replicate, replicate-append-replicate, drop-of-length-le}
 use lib.Seq.{paste, paste-zero, paste-suc, take-all, take-at, drop-at, drop-cons, set-at}
 use Rattle.rules.specs.declared.Slice.{Slice}
-use Rattle.rules.specs.Limits.{placeLimit, sliceSize, tableSize, sliceLimit}
+use Rattle.rules.specs.Limits.{placeLimit, sliceSize, tableSize}
 use Rattle.rules.specs.Packed.{sliceBytes, slicesBytes}
-use Rattle.rules.specs.Numbers.{total}
-use Rattle.cuts.specs.Cuts.{putAt}
+use Rattle.slice_table.specs.Table.{putAt}
 
 pub slice-long : (s : List ℕ) (c : Slice) → s ≡ sliceBytes c → length s ≡ sliceSize
 unfolding sliceBytes
@@ -50,11 +49,6 @@ pub bytes-long : (cs : List Slice) → length (slicesBytes cs) ≡ length cs * s
 unfolding slicesBytes
 bytes-long [] = refl
 bytes-long (c ∷ cs) = omega (arith, length-append (sliceBytes c) (slicesBytes cs), slice-long (sliceBytes c) c refl, bytes-long cs)
-
-pub total-more : (cs : List Slice) (c : Slice) → total (cs ++ (c ∷ [])) ≡ total cs + c .friction * c .thickness * c .factor
-unfolding total
-total-more [] c = omega arith
-total-more (x ∷ cs) c = omega (arith, total-more cs c)
 
 -- n slices of the table are filled
 abbrev pub Filled : List Slice → List ℕ → ℕ → Type 0

@@ -1,4 +1,4 @@
--- `cuts::table::put_slice` meets its contract: j bytes are copied.
+-- `slice_table::put_slice` meets its contract: j bytes are copied.
 use borrow.Author.Needs.{needs}
 use mathlib.Core.Path.{_≡_, refl, _∙_, ap}
 use mathlib.Core.List.{List, _++_}
@@ -7,10 +7,10 @@ use native.Mathlib.Omega.{arith}
 use lib.ListN.{length, take, drop, length-set}
 use lib.Seq.{paste}
 use Rattle.rules.specs.Limits.{sliceSize}
-use Rattle.cuts.specs.Cuts.{putAt}
-use Rattle.cuts.proofs.TableLaws.{slice-long, copy-none, copy-more, copy-all}
-use Rattle.cuts.proofs.table.put_slice.Statement.{statement}
-use Rattle.cuts.proofs.table.put_slice.Tie as tie
+use Rattle.slice_table.specs.Table.{putAt}
+use Rattle.slice_table.proofs.TableLaws.{slice-long, copy-none, copy-more, copy-all}
+use Rattle.slice_table.proofs.put_slice.Statement.{statement}
+use Rattle.slice_table.proofs.put_slice.Tie as tie
 
 abbrev Inv-loop : tie.InvT-loop
 Inv-loop table₀ place packed at j₀ table j = (j ≤ sliceSize) × (length table ≡ length table₀) × (table ≡ paste table₀ at packed j)

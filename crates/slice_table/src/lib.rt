@@ -3,7 +3,7 @@ ghost use mathlib.Core.Path.{_≡_};
 ghost use Prim.Native.Nat.{_<_};
 ghost use lib.ListN.{length, replicate};
 ghost use Rattle.rules.specs.Limits.{placeLimit, tableSize};
-ghost use Rattle.cuts.specs.Cuts.{putAt};
+ghost use Rattle.slice_table.specs.Table.{putAt};
 use rules::Slice;
 
 pub const PLACES: usize = 83;
@@ -25,7 +25,7 @@ pub fn clear_table(table: &mut [u8])
 }
 
 // A slice into its place of the table.
-pub(crate) fn put_slice(table: &mut [u8], place: usize, c: Slice)
+pub fn put_slice(table: &mut [u8], place: usize, c: Slice)
     requires { ⌜ (place < placeLimit) × (length (now table) ≡ tableSize) ⌝ }
     ensures { λ _. ⌜ now (table .exit) ≡ putAt (now (table .entry)) place c ⌝ }
 {

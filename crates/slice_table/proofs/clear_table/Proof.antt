@@ -1,4 +1,4 @@
--- `cuts::table::clear_table` meets its contract: i bytes are cleared.
+-- `slice_table::clear_table` meets its contract: i bytes are cleared.
 use borrow.Author.Needs.{needs}
 use mathlib.Core.Path.{_≡_, refl}
 use mathlib.Core.List.{_++_}
@@ -6,9 +6,9 @@ use Prim.Native.Nat.{_≤_, _-_}
 use native.Mathlib.Omega.{arith}
 use lib.ListN.{length, drop, replicate, length-set}
 use Rattle.rules.specs.Limits.{tableSize}
-use Rattle.cuts.proofs.TableLaws.{clear-more, clear-all}
-use Rattle.cuts.proofs.table.clear_table.Statement.{statement}
-use Rattle.cuts.proofs.table.clear_table.Tie as tie
+use Rattle.slice_table.proofs.TableLaws.{clear-more, clear-all}
+use Rattle.slice_table.proofs.clear_table.Statement.{statement}
+use Rattle.slice_table.proofs.clear_table.Tie as tie
 
 abbrev Inv-loop : tie.InvT-loop
 Inv-loop table₀ i₀ table i = (i ≤ tableSize) × (length table ≡ length table₀) × (table ≡ replicate i 0 ++ drop i table₀)

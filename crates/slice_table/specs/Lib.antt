@@ -1,0 +1,2 @@
+-- A slice in the lent table.
+pub mod Table
