@@ -1,14 +1,16 @@
 -- A row of a list of bytes: that of a part, that of zero bytes, and its fields in a row.
-use mathlib.Core.Path.{_≡_, sym}
+use mathlib.Core.Path.{_≡_, sym, _∙_, ap}
 use mathlib.Core.List.{List}
-use Prim.Native.Nat.{ℕ, _+_, _*_, _/_, _%_, _<_, _≤_}
+use Prim.Native.Nat.{ℕ, _+_, _*_, _-_, _/_, _%_, _<_, _≤_}
 use native.Mathlib.Omega.{arith}
-use lib.ListN.{getD, drop}
+use lib.ListN.{length, getD, take, drop}
+use lib.Seq.{getD-drop}
 use Rattle.rules.specs.declared.Row.{Row}
 use Rattle.rules.specs.Packed.{bitsAt, rowAt, noRow}
 use Rattle.bits.specs.Fits.{Bytes}
 use Rattle.bits.specs.Word.{fieldOf, fiveOf, Taken}
-use Rattle.bits.proofs.BitLaws.{bits-part, Blank, bits-blank}
+use Rattle.bits.proofs.BitLaws.{bits-part, Blank, bits-blank, past-end, part-whole}
+use Rattle.rows.specs.Fields.{rowOf}
 
 pub row-shift : (s : List ℕ) (i at k : ℕ) → k ≡ i * 8 + at → rowAt (drop i s) at ≡ rowAt s k
 row-shift s i at k e =
@@ -32,6 +34,9 @@ row-blank s i at b h =
       bits-blank s i (at + 16 + 3 + 8) 7 b (omega arith),
       bits-blank s i (at + 16 + 3 + 8 + 7) 6 b (omega arith),
     )
+
+pub row-past : (s : List ℕ) (at : ℕ) → length s * 8 ≤ at → rowAt s at ≡ noRow
+row-past s at h = row-blank s (length s) at (past-end s (length s) (omega arith)) h
 
 -- the fields that five bytes hold
 abbrev pub rowHeld : ℕ → ℕ → ℕ → ℕ → ℕ → Row
@@ -57,21 +62,18 @@ word-fields : (a b c d e : ℕ) → a < 256 → b < 256 → c < 256 → d < 256 
 unfolding fieldOf
 word-fields a b c d e ha hb hc hd he = (omega arith, omega arith, omega arith, omega arith, omega arith)
 
-word-row : (s : List ℕ) → Bytes s
-    → _≡_ {A = Row}
-    (record {
-      thickness = fieldOf (fiveOf s) 24 16;
-      kind = fieldOf (fiveOf s) 40 3;
-      index = fieldOf (fiveOf s) 43 8;
-      saturation = fieldOf (fiveOf s) 51 7;
-      zero = fieldOf (fiveOf s) 58 6;
-    })
-    (rowAt s 0)
+word-row : (s : List ℕ) → Bytes s → rowOf (fiveOf s) ≡ rowAt s 0
 word-row s k =
     let p = word-fields (getD s 0 0) (getD s 1 0) (getD s 2 0) (getD s 3 0) (getD s 4 0) (k 0) (k 1) (k 2) (k 3) (k 4) in
     simp (p .0, p .1, p .2, p .3, p .4) (sym (window-row s k))
 
+-- the row that begins at byte i, from the part that begins there
+pub row-read : (s : List ℕ) (i : ℕ) → Bytes s → {w : ℕ} → w ≡ fiveOf (take (length s - i) (drop i s)) → rowOf w ≡ rowAt s (i * 8)
+row-read s i k e =
+    let b : Bytes (drop i s) = λ (j : ℕ). rw getD-drop (k (i + j)) in
+    ap rowOf (e ∙ ap (λ (t : List ℕ). fiveOf t) (part-whole s i)) ∙ word-row (drop i s) b ∙ row-part s i
+
 -- five fields, each taken where the one before ended
-pub row-taken : (s : List ℕ) → Bytes s → {w a x p b y q c z r d u t e v o : ℕ} → w ≡ fiveOf s → Taken w 24 16 a x p → Taken x p 3 b y q → Taken y q 8 c z r → Taken z r 7 d u t
-    → Taken u t 6 e v o → _≡_ {A = Row} (record { thickness = a; kind = b; index = c; saturation = d; zero = e }) (rowAt s 0)
-row-taken s k g h i j l m = cc (word-row s k)
+pub row-taken : {w a x p b y q c z r d u t e v o : ℕ} → Taken w 24 16 a x p → Taken x p 3 b y q → Taken y q 8 c z r → Taken z r 7 d u t → Taken u t 6 e v o
+    → _≡_ {A = Row} (record { thickness = a; kind = b; index = c; saturation = d; zero = e }) (rowOf w)
+row-taken h i j l m = cc

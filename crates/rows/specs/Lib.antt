@@ -1,2 +1,3 @@
--- What packing a row needs beside document 01's definitions.
+-- What reading and packing a row need beside document 01's definitions.
+pub mod Fields
 pub mod Fits

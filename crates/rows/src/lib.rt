@@ -5,19 +5,22 @@ use bits::take_bits;
 use rules::Row;
 use words::bytes_of;
 use words::five_of;
+use words::whole_five;
 ghost use mathlib.Core.Path.{_≡_};
-ghost use Prim.Native.Nat.{_*_};
+ghost use Prim.Native.Nat.{_+_, _*_, _≤_};
+ghost use lib.ListN.{length};
 ghost use Rattle.rules.specs.Packed.{rowAt, noRow, rowBytes};
+ghost use Rattle.rows.specs.Fields.{rowOf};
 
 // Where the five bytes of a row begin in a word.
 const ROW_START: usize = 24;
 
-// The row that begins with the first byte.
-fn take_row(s: &[u8]) -> Row
-    ensures { λ r. ⌜ r ≡ rowAt (now (s .entry)) 0 ⌝ }
+// The row in the number of its five bytes.
+fn row_of(word: u64) -> Row
+    ensures { λ r. ⌜ r ≡ rowOf word ⌝ }
 {
     let start = Cursor {
-        word: five_of(s),
+        word: word,
         at: ROW_START,
     };
     let thickness = take_bits(start, 16);
@@ -53,7 +56,15 @@ pub fn read_row(s: &[u8], i: usize) -> Row
     if i >= s.len() {
         return no_row();
     }
-    take_row(&s[i..])
+    row_of(five_of(&s[i..]))
+}
+
+// The same where all five bytes are inside: nothing asks where the slice ends.
+pub fn row_inside(s: &[u8], i: usize) -> Row
+    requires { ⌜ i + 5 ≤ length (now s) ⌝ }
+    ensures { λ r. ⌜ r ≡ rowAt (now (s .entry)) (i * 8) ⌝ }
+{
+    row_of(whole_five(&s[i..]))
 }
 
 // The five bytes of a row; a field of more bits than its place is carried into the field before.

@@ -5,15 +5,18 @@ use slice_table::clear_table;
 use soils::joins;
 use soils::soil_of;
 ghost use mathlib.Core.Path.{_≡_};
-ghost use Prim.Native.Nat.{_<_, _≤_};
+ghost use Prim.Native.Nat.{_+_, _*_, _<_, _≤_};
 ghost use lib.ListN.{length};
 ghost use Rattle.rules.specs.Checks.{depthOf};
-ghost use Rattle.rules.specs.Limits.{tableSize};
-ghost use Rattle.rules.specs.Packed.{rowsOf};
+ghost use Rattle.rules.specs.Limits.{rowSize, logSize, tableSize};
+ghost use Rattle.rules.specs.Packed.{rowAt, rowsOf};
 ghost use Rattle.friction_table.specs.Printed.{Lent};
 ghost use Rattle.strata.specs.Good.{Good};
 ghost use Rattle.shaft.specs.Shafts.{cutOf, shaftOf, tableOf};
 use rules::Pile;
+use rules::Row;
+
+const ROW_LIMIT: usize = 64;
 
 const ROW_SIZE: usize = 5;
 
@@ -23,6 +26,17 @@ const OVER: usize = PLACES + 1;
 pub struct Shaft {
     pub used: usize,
     pub total: u64,
+}
+
+// Row i of the log, counted from 0; no row past its last place.
+fn row_in(log: &[u8], i: usize) -> Row
+    requires { ⌜ length (now log) ≡ logSize ⌝ }
+    ensures { λ r. ⌜ r ≡ rowAt (now (log .entry)) ((1 + i * rowSize) * 8) ⌝ }
+{
+    if i < ROW_LIMIT {
+        return rows::row_inside(log, 1 + i * ROW_SIZE);
+    }
+    rows::no_row()
 }
 
 // The cut along the rows of the log, with table 7.3 and its index lent.
@@ -45,7 +59,7 @@ fn cut_along(
     let mut at = pile.head as u64;
     // The row that comes next is read once, and kept until it joins.
     let mut next: usize = 0;
-    let mut row = rows::read_row(log, 1);
+    let mut row = rows::row_inside(log, 1);
     let mut soil = soil_of(row);
     let mut bottom: u64 = 0;
     while at < tip {
@@ -54,7 +68,7 @@ fn cut_along(
                 soil = soil_of(row);
                 bottom += row.thickness as u64;
                 next += 1;
-                row = rows::read_row(log, 1 + next * ROW_SIZE);
+                row = row_in(log, next);
                 continue;
             }
         }

@@ -32,7 +32,7 @@ fn row_at(log: &[u8], m: u64) -> Held
     let mut i: usize = 0;
     while i < n {
         let top = bottom;
-        let r = rows::read_row(log, 1 + i * ROW_SIZE);
+        let r = rows::row_inside(log, 1 + i * ROW_SIZE);
         bottom += r.thickness as u64;
         if m < bottom {
             return Held { row: i, top: top };
@@ -53,10 +53,10 @@ pub fn stratum_at(log: &[u8], m: u64) -> Stratum
     let held = row_at(log, m);
     let mut i = held.row;
     let mut top = held.top;
-    let soil = soil_of(rows::read_row(log, 1 + i * ROW_SIZE));
+    let soil = soil_of(rows::row_inside(log, 1 + i * ROW_SIZE));
     while 0 < i {
         i -= 1;
-        let above = rows::read_row(log, 1 + i * ROW_SIZE);
+        let above = rows::row_inside(log, 1 + i * ROW_SIZE);
         if !same_soil(soil, soil_of(above)) {
             return Stratum { soil, top };
         }

@@ -5,4 +5,5 @@ mod word;
 pub use copy::copy_in;
 pub use word::bytes_of;
 pub use word::five_of;
+pub use word::whole_five;
 pub use word::word_of;

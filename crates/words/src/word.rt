@@ -38,7 +38,7 @@ fn padded(s: &[u8]) -> [u8; 8]
 }
 
 // Where all are inside, no byte asks where the slice ends: a load of four and one of one.
-fn whole_five(s: &[u8]) -> u64
+pub fn whole_five(s: &[u8]) -> u64
     requires { ⌜ 5 ≤ length (now s) ⌝ }
     ensures { λ r. ⌜ r ≡ fiveOf (now (s .entry)) ⌝ }
 {

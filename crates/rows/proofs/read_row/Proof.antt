@@ -1,41 +1,39 @@
 -- `rows::read_row` meets its contract.
-use mathlib.Core.Path.{ap, sym, _∙_}
-use mathlib.Core.List.{List}
+use mathlib.Core.Path.{sym, _∙_}
 use Prim.Native.Nat.{ℕ, _*_}
 use native.Mathlib.Omega.{arith}
-use Rattle.rules.specs.Packed.{rowAt}
-use Rattle.bits.proofs.BitLaws.{part-whole, past-end}
-use Rattle.rows.proofs.RowLaws.{row-part, row-blank}
+use Rattle.rows.proofs.RowLaws.{row-read, row-past}
 use borrow.Author.Needs.{needs}
 use Rattle.rows.proofs.read_row.Statement.{statement}
 use Rattle.rows.proofs.read_row.Tie as tie
 
 returns : tie.Need-returns
 returns c =
-    let s = c .before .before .before .args .s .now in
-    let i = c .before .before .before .args .i in
-    c .no-row .ensures ∙ sym (row-blank s i (i * 8) (past-end s i (omega arith)) (omega arith))
+    let a = c .before .before .before .args in
+    c .no-row .ensures ∙ sym (row-past (a .s .now) (a .i * 8) (omega arith))
 
 no-row-requires : tie.Need-no-row-requires
 no-row-requires c κs = search needs
 
-sub-take-row : tie.Need-sub-take-row
-sub-take-row c = search needs
+sub-five-of : tie.Need-sub-five-of
+sub-five-of c = search needs
 
-part-take-row-start : tie.Need-part-take-row-start
-part-take-row-start c = search needs
+part-five-of-start : tie.Need-part-five-of-start
+part-five-of-start c = search needs
 
-part-take-row-end : tie.Need-part-take-row-end
-part-take-row-end c = search needs
+part-five-of-end : tie.Need-part-five-of-end
+part-five-of-end c = search needs
 
-take-row-requires : tie.Need-take-row-requires
-take-row-requires c κs = search needs
+five-of-requires : tie.Need-five-of-requires
+five-of-requires c κs = search needs
+
+row-of-requires : tie.Need-row-of-requires
+row-of-requires c κs = search needs
 
 returns-2 : tie.Need-returns-2
 returns-2 c =
-    let s = c .before .before .before .before .args .s .now in
-    let i = c .before .before .before .before .args .i in
-    c .take-row .ensures ∙ ap (λ (t : List ℕ). rowAt t 0) (part-whole s i) ∙ row-part s i
+    let k = c .before .before .before .before in
+    c .row-of .ensures ∙ row-read (k .before .args .s .now) (k .before .args .i) (λ (j : ℕ). omega (arith, k .shared-slice-known .given j)) (c .before .five-of .ensures)
 
 pub read-row-spec : {M : Type 1} → statement M
 read-row-spec =
@@ -43,8 +41,9 @@ read-row-spec =
     (tie.spec
     no-row-requires
     returns
-    sub-take-row
-    part-take-row-start
-    part-take-row-end
-    take-row-requires
+    sub-five-of
+    part-five-of-start
+    part-five-of-end
+    five-of-requires
+    row-of-requires
     returns-2)

@@ -36,14 +36,14 @@ cast-tip c = search needs
 cast-at : tie.Need-cast-at Inv-loop μ-loop
 cast-at c = search needs
 
-read-row-requires : tie.Need-read-row-requires Inv-loop μ-loop
-read-row-requires c κs = search needs
+row-inside-requires : tie.Need-row-inside-requires Inv-loop μ-loop
+row-inside-requires c κs = omega (arith, c .before .before .before .before .before .before .before .before .before .pre .1 .long)
 
 soil-of-requires : tie.Need-soil-of-requires Inv-loop μ-loop
 soil-of-requires c κs = search needs
 
 loop-holds : tie.Need-loop-holds Inv-loop μ-loop
-loop-holds c = (omega arith, open-none _ _ _, doing-none _ _ _ (c .before .before .before .before .before .before .before .before .before .before .before .pre .2) (c .before .before .before .before .before .before .before .clear-table .ensures), c .before .read-row .ensures)
+loop-holds c = (omega arith, open-none _ _ _, doing-none _ _ _ (c .before .before .before .before .before .before .before .before .before .before .before .pre .2) (c .before .before .before .before .before .before .before .clear-table .ensures), c .before .row-inside .ensures)
 
 joins-requires : tie.Need-joins-requires Inv-loop μ-loop
 joins-requires c κs = search needs
@@ -63,14 +63,8 @@ add-bottom c =
 add-next : tie.Need-add-next Inv-loop μ-loop
 add-next c = omega (arith, c .before .before .before .before .if1 .taken, c .before .before .before .before .before .before .before .before .before .before .before .before .before .before .before .before .before .before .pre .1 .count)
 
-mul-read-row : tie.Need-mul-read-row Inv-loop μ-loop
-mul-read-row c = omega (arith, c .before .before .before .before .if1 .taken, c .before .before .before .before .before .before .before .before .before .before .before .before .before .before .before .before .before .before .pre .1 .count)
-
-add-read-row : tie.Need-add-read-row Inv-loop μ-loop
-add-read-row c = omega (arith, c .before .before .before .before .if1 .taken, c .before .before .before .before .before .before .before .before .before .before .before .before .before .before .before .before .before .before .pre .1 .count)
-
-read-row-requires-2 : tie.Need-read-row-requires-2 Inv-loop μ-loop
-read-row-requires-2 c κs = search needs
+row-in-requires : tie.Need-row-in-requires Inv-loop μ-loop
+row-in-requires c κs = c .before .before .before .before .before .before .before .before .before .before .before .before .before .before .before .before .before .before .pre .1 .long
 
 loop-less : tie.Need-loop-less Inv-loop μ-loop
 loop-less c = omega (arith, c .before .before .before .before .before .if1 .taken)
@@ -83,7 +77,7 @@ loop-again c =
       open-more _ _ _ (l .next) _ _ _ _ (row-left (a .args .log .now) (l .next) _ (c .before .before .before .before .before .if1 .taken) (l .inv .3)) refl (c .before .before .soil-of2 .ensures)
           (sym (c .before .before .before .before .joins .ensures) ∙ c .before .before .before .if2 .taken) (l .inv .1),
       l .inv .2,
-      c .read-row2 .ensures,
+      c .row-in .ensures,
     )
 
 -- the open stratum is whole where its next slice is cut
@@ -170,7 +164,7 @@ cut-along-spec =
     cast-n
     cast-tip
     cast-at
-    read-row-requires
+    row-inside-requires
     soil-of-requires
     loop-holds
     joins-requires
@@ -178,9 +172,7 @@ cut-along-spec =
     cast-bottom
     add-bottom
     add-next
-    mul-read-row
-    add-read-row
-    read-row-requires-2
+    row-in-requires
     loop-less
     loop-again
     clear-table-requires-2

@@ -26,14 +26,14 @@ loop-holds : tie.Need-loop-holds Inv-loop μ-loop
 unfolding depthOf
 loop-holds c = (omega arith, refl)
 
-mul-read-row : tie.Need-mul-read-row Inv-loop μ-loop
-mul-read-row c = omega (arith, c .before .before .before .before .pre .0 .count)
+mul-row-inside : tie.Need-mul-row-inside Inv-loop μ-loop
+mul-row-inside c = omega (arith, c .before .before .before .before .pre .0 .count)
 
-add-read-row : tie.Need-add-read-row Inv-loop μ-loop
-add-read-row c = omega (arith, c .before .before .before .before .pre .0 .count)
+add-row-inside : tie.Need-add-row-inside Inv-loop μ-loop
+add-row-inside c = omega (arith, c .before .before .before .before .pre .0 .count)
 
-read-row-requires : tie.Need-read-row-requires Inv-loop μ-loop
-read-row-requires c κs = search needs
+row-inside-requires : tie.Need-row-inside-requires Inv-loop μ-loop
+row-inside-requires c κs = let a = c .before .before .before .before in omega (arith, a .pre .0 .long, a .pre .0 .count)
 
 cast-bottom : tie.Need-cast-bottom Inv-loop μ-loop
 cast-bottom c = search needs
@@ -42,13 +42,13 @@ add-bottom : tie.Need-add-bottom Inv-loop μ-loop
 add-bottom c =
     let l = c .before .before .before .loop in
     let a = c .before .before .before .before .before .before in
-    record { fits = row-fits (a .args .log .now) (l .i) _ _ (a .pre .0) (omega arith) (c .before .read-row .ensures) (l .inv .1) }
+    record { fits = row-fits (a .args .log .now) (l .i) _ _ (a .pre .0) (omega arith) (c .before .row-inside .ensures) (l .inv .1) }
 
 returns : tie.Need-returns Inv-loop μ-loop
 returns c =
     let l = c .before .before .before .before .loop in
     let a = c .before .before .before .before .before .before .before in
-    let more = sum-more (l .i) (rowsOf (a .args .log .now)) _ _ _ _ (row-left (a .args .log .now) (l .i) _ (omega arith) (c .before .before .read-row .ensures)) refl (l .inv .1) in
+    let more = sum-more (l .i) (rowsOf (a .args .log .now)) _ _ _ _ (row-left (a .args .log .now) (l .i) _ (omega arith) (c .before .before .row-inside .ensures)) refl (l .inv .1) in
     record { row = omega arith; top = l .inv .1; above = l .inv .0; below = omega (arith, more, c .if1 .taken) }
 
 add-i : tie.Need-add-i Inv-loop μ-loop
@@ -61,7 +61,7 @@ loop-again : tie.Need-loop-again Inv-loop μ-loop
 loop-again c =
     let l = c .before .before .before .before .loop in
     let a = c .before .before .before .before .before .before .before in
-    (c .if1 .left, sum-more (l .i) (rowsOf (a .args .log .now)) _ _ _ _ (row-left (a .args .log .now) (l .i) _ (omega arith) (c .before .before .read-row .ensures)) refl (l .inv .1))
+    (c .if1 .left, sum-more (l .i) (rowsOf (a .args .log .now)) _ _ _ _ (row-left (a .args .log .now) (l .i) _ (omega arith) (c .before .before .row-inside .ensures)) refl (l .inv .1))
 
 returns-2 : tie.Need-returns-2 Inv-loop μ-loop
 returns-2 c =
@@ -78,9 +78,9 @@ row-at-spec =
     shared-slice-read-n
     cast-n
     loop-holds
-    mul-read-row
-    add-read-row
-    read-row-requires
+    mul-row-inside
+    add-row-inside
+    row-inside-requires
     cast-bottom
     add-bottom
     returns

@@ -20,14 +20,14 @@ abbrev μ-loop : tie.MeasureT-loop
 row-at-requires : tie.Need-row-at-requires Inv-loop μ-loop
 row-at-requires c κs = search needs
 
-mul-read-row : tie.Need-mul-read-row Inv-loop μ-loop
-mul-read-row c = omega (arith, c .row-at .ensures .row, c .before .before .pre .0 .count)
+mul-row-inside : tie.Need-mul-row-inside Inv-loop μ-loop
+mul-row-inside c = omega (arith, c .row-at .ensures .row, c .before .before .pre .0 .count)
 
-add-read-row : tie.Need-add-read-row Inv-loop μ-loop
-add-read-row c = omega (arith, c .row-at .ensures .row, c .before .before .pre .0 .count)
+add-row-inside : tie.Need-add-row-inside Inv-loop μ-loop
+add-row-inside c = omega (arith, c .row-at .ensures .row, c .before .before .pre .0 .count)
 
-read-row-requires : tie.Need-read-row-requires Inv-loop μ-loop
-read-row-requires c κs = search needs
+row-inside-requires : tie.Need-row-inside-requires Inv-loop μ-loop
+row-inside-requires c κs = omega (arith, c .row-at .ensures .row, c .before .before .pre .0 .long, c .before .before .pre .0 .count)
 
 soil-of-requires : tie.Need-soil-of-requires Inv-loop μ-loop
 soil-of-requires c κs = search needs
@@ -36,19 +36,19 @@ loop-holds : tie.Need-loop-holds Inv-loop μ-loop
 loop-holds c =
     let a = c .before .before .before .before in
     let held = c .before .before .row-at in
-    (held .ensures .row, risen-none (a .args .log .now) _ (held .result) _ _ _ (held .ensures) (row-left (a .args .log .now) (held .result .row) _ (held .ensures .row) (c .before .read-row .ensures)) (c .soil-of .ensures))
+    (held .ensures .row, risen-none (a .args .log .now) _ (held .result) _ _ _ (held .ensures) (row-left (a .args .log .now) (held .result .row) _ (held .ensures .row) (c .before .row-inside .ensures)) (c .soil-of .ensures))
 
 sub-i : tie.Need-sub-i Inv-loop μ-loop
 sub-i c = search needs
 
-mul-read-row-2 : tie.Need-mul-read-row-2 Inv-loop μ-loop
-mul-read-row-2 c = omega (arith, c .before .loop .inv .0, c .before .before .before .before .before .before .pre .0 .count)
+mul-row-inside-2 : tie.Need-mul-row-inside-2 Inv-loop μ-loop
+mul-row-inside-2 c = omega (arith, c .before .loop .inv .0, c .before .before .before .before .before .before .pre .0 .count)
 
-add-read-row-2 : tie.Need-add-read-row-2 Inv-loop μ-loop
-add-read-row-2 c = omega (arith, c .before .loop .inv .0, c .before .before .before .before .before .before .pre .0 .count)
+add-row-inside-2 : tie.Need-add-row-inside-2 Inv-loop μ-loop
+add-row-inside-2 c = omega (arith, c .before .loop .inv .0, c .before .before .before .before .before .before .pre .0 .count)
 
-read-row-requires-2 : tie.Need-read-row-requires-2 Inv-loop μ-loop
-read-row-requires-2 c κs = search needs
+row-inside-requires-2 : tie.Need-row-inside-requires-2 Inv-loop μ-loop
+row-inside-requires-2 c κs = let a = c .before .before .before .before .before .before in omega (arith, c .before .loop .inv .0, a .pre .0 .long, a .pre .0 .count)
 
 soil-of-requires-2 : tie.Need-soil-of-requires-2 Inv-loop μ-loop
 soil-of-requires-2 c κs = search needs
@@ -60,7 +60,7 @@ returns : tie.Need-returns Inv-loop μ-loop
 returns c =
     let a = c .before .before .before .before .before .before .before .before .before .before in
     let l = c .before .before .before .before .before .loop in
-    risen-here _ _ (l .i - 1) (l .i) _ _ _ _ (omega (arith, c .before .before .before .before .loop-test .taken)) (l .inv .1) (row-left (a .args .log .now) (l .i - 1) _ (omega (arith, l .inv .0)) (c .before .before .before .read-row2 .ensures))
+    risen-here _ _ (l .i - 1) (l .i) _ _ _ _ (omega (arith, c .before .before .before .before .loop-test .taken)) (l .inv .1) (row-left (a .args .log .now) (l .i - 1) _ (omega (arith, l .inv .0)) (c .before .before .before .row-inside2 .ensures))
     (sym (c .before .same-soil .ensures ∙ ap (same _) (c .before .before .soil-of2 .ensures)) ∙ not-true _ (c .if1 .taken)) (a .pre .0 .full)
 
 cast-top : tie.Need-cast-top Inv-loop μ-loop
@@ -70,7 +70,7 @@ sub-top : tie.Need-sub-top Inv-loop μ-loop
 sub-top c =
     let a = c .before .before .before .before .before .before .before .before .before .before .before in
     let l = c .before .before .before .before .before .before .loop in
-    omega (arith, fits _ _ (l .i - 1) (l .i) _ _ _ _ (omega (arith, c .before .before .before .before .before .loop-test .taken)) (l .inv .1) (row-left (a .args .log .now) (l .i - 1) _ (omega (arith, l .inv .0)) (c .before .before .before .before .read-row2 .ensures)))
+    omega (arith, fits _ _ (l .i - 1) (l .i) _ _ _ _ (omega (arith, c .before .before .before .before .before .loop-test .taken)) (l .inv .1) (row-left (a .args .log .now) (l .i - 1) _ (omega (arith, l .inv .0)) (c .before .before .before .before .row-inside2 .ensures)))
 
 loop-less : tie.Need-loop-less Inv-loop μ-loop
 loop-less c = omega (arith, c .before .before .before .before .before .loop-test .taken)
@@ -80,7 +80,7 @@ loop-again c =
     let a = c .before .before .before .before .before .before .before .before .before .before .before in
     let l = c .before .before .before .before .before .before .loop in (
       omega (arith, l .inv .0),
-      risen-more _ _ (l .i - 1) (l .i) _ _ _ _ (omega (arith, c .before .before .before .before .before .loop-test .taken)) (l .inv .1) (row-left (a .args .log .now) (l .i - 1) _ (omega (arith, l .inv .0)) (c .before .before .before .before .read-row2 .ensures))
+      risen-more _ _ (l .i - 1) (l .i) _ _ _ _ (omega (arith, c .before .before .before .before .before .loop-test .taken)) (l .inv .1) (row-left (a .args .log .now) (l .i - 1) _ (omega (arith, l .inv .0)) (c .before .before .before .before .row-inside2 .ensures))
           (sym (c .before .before .same-soil .ensures ∙ ap (same _) (c .before .before .before .soil-of2 .ensures)) ∙ not-false _ (c .before .if1 .left)),
     )
 
@@ -96,15 +96,15 @@ stratum-at-spec =
     Inv-loop
     μ-loop
     row-at-requires
-    mul-read-row
-    add-read-row
-    read-row-requires
+    mul-row-inside
+    add-row-inside
+    row-inside-requires
     soil-of-requires
     loop-holds
     sub-i
-    mul-read-row-2
-    add-read-row-2
-    read-row-requires-2
+    mul-row-inside-2
+    add-row-inside-2
+    row-inside-requires-2
     soil-of-requires-2
     same-soil-requires
     returns
