@@ -37,12 +37,13 @@ fn padded(s: &[u8]) -> [u8; 8]
     b
 }
 
-// Where all are inside, no byte asks where the slice ends: a load of four and one of one.
+// Where all are inside, no byte asks where the slice ends: a load of four and one of one. The first byte is
+// added last: read before the four, it keeps the compiler from making one load of them.
 pub fn whole_five(s: &[u8]) -> u64
     requires { ⌜ 5 ≤ length (now s) ⌝ }
     ensures { λ r. ⌜ r ≡ fiveOf (now (s .entry)) ⌝ }
 {
-    wide(s[0]) * 4294967296 + four_at(s, 1)
+    four_at(s, 1) + wide(s[0]) * 4294967296
 }
 
 // The first five bytes of s, 0 past the end.

@@ -3,6 +3,9 @@ use borrow.Author.Needs.{needs}
 use Rattle.words.proofs.word.whole_five.Statement.{statement}
 use Rattle.words.proofs.word.whole_five.Tie as tie
 
+four-at-requires : tie.Need-four-at-requires
+four-at-requires c κs = search needs
+
 shared-slice-read-wide : tie.Need-shared-slice-read-wide
 shared-slice-read-wide c = search needs
 
@@ -11,9 +14,6 @@ wide-requires c κs = search needs
 
 mul-result : tie.Need-mul-result
 mul-result c = search needs
-
-four-at-requires : tie.Need-four-at-requires
-four-at-requires c κs = search needs
 
 add-result : tie.Need-add-result
 add-result c = search needs
@@ -24,4 +24,4 @@ returns c = search needs
 pub whole-five-spec : {M : Type 1} → statement M
 whole-five-spec =
     tie.close
-    (tie.spec shared-slice-read-wide wide-requires mul-result four-at-requires add-result returns)
+    (tie.spec four-at-requires shared-slice-read-wide wide-requires mul-result add-result returns)
