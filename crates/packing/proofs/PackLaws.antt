@@ -17,7 +17,7 @@ use Rattle.rules.specs.Limits.{rowLimit, logSize}
 use Rattle.rules.specs.Packed.{noRow, rowBytes, placesBytes, logBytes}
 use Rattle.rules.specs.Checks.{countWrong, wrongField, firstWrong}
 use Rattle.rules.specs.Reading.{rowZero, rowsZero, unusedFields, packLogCheck, packedLog}
-use Rattle.bits.proofs.CopyLaws.{paste-after}
+use Rattle.copies.proofs.CopyLaws.{paste-after}
 use Rattle.logs.proofs.RowsLaws.{wrong-here, wrong-below}
 
 -- The length that a log's relation gives of its places, each as a tuple, is that of the places.

@@ -1,4 +1,5 @@
 // Packing a log: its checks, and its count and 64 row places as 321 bytes.
+use copies::copy_in;
 use frames::count_wrong;
 use replies::first;
 use replies::refuse;
@@ -7,7 +8,6 @@ use row_ranges::row_zero;
 use rows::row_bytes;
 use rules::Log;
 use rules::Refusal;
-use words::copy_in;
 ghost use mathlib.Core.Path.{_≡_};
 ghost use Prim.Native.Nat.{min};
 ghost use lib.ListN.{length, take, drop};

@@ -16,7 +16,7 @@ use Rattle.rules.specs.Checks.{wrongPart, sectionCheck, pileChecks}
 use Rattle.bits.specs.Fits.{Bytes}
 use Rattle.bits.specs.Word.{fieldOf, wordOf, Taken}
 use Rattle.rules.specs.Reading.{noPile, readPile, packPileCheck, packedPile}
-use Rattle.bits.proofs.CopyLaws.{paste-over}
+use Rattle.copies.proofs.CopyLaws.{paste-over}
 
 -- the fields that eight bytes hold
 abbrev pub pileHeld : ℕ → ℕ → ℕ → ℕ → ℕ → ℕ → ℕ → ℕ → Pile

@@ -2,13 +2,13 @@
 use bits::Cursor;
 use bits::put_bits;
 use bits::take_bits;
+use copies::copy_in;
 use pile_ranges::pile_refusal;
 use replies::refuse;
 use rules::Pile;
 use rules::PileRead;
 use rules::Refusal;
 use words::bytes_of;
-use words::copy_in;
 use words::word_of;
 ghost use mathlib.Core.Path.{_≡_};
 ghost use Rattle.rules.specs.Packed.{pileOf, pileBytes};

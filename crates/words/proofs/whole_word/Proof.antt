@@ -1,7 +1,7 @@
--- `words::word::whole_word` meets its contract.
+-- `words::whole_word` meets its contract.
 use borrow.Author.Needs.{needs}
-use Rattle.words.proofs.word.whole_word.Statement.{statement}
-use Rattle.words.proofs.word.whole_word.Tie as tie
+use Rattle.words.proofs.whole_word.Statement.{statement}
+use Rattle.words.proofs.whole_word.Tie as tie
 
 four-at-requires : tie.Need-four-at-requires
 four-at-requires c κs = search needs

@@ -1,13 +1,13 @@
--- `words::copy::copy_in` meets its contract.
+-- `copies::copy_in` meets its contract.
 use mathlib.Core.Path.{_≡_, refl}
 use Prim.Native.Nat.{_-_, _≤_}
 use native.Mathlib.Omega.{arith}
 use lib.ListN.{length, length-set}
 use lib.Seq.{paste, paste-zero}
-use Rattle.bits.proofs.CopyLaws.{copy-more, copy-end}
+use Rattle.copies.proofs.CopyLaws.{copy-more, copy-end}
 use borrow.Author.Needs.{needs}
-use Rattle.words.proofs.copy.copy_in.Statement.{statement}
-use Rattle.words.proofs.copy.copy_in.Tie as tie
+use Rattle.copies.proofs.copy_in.Statement.{statement}
+use Rattle.copies.proofs.copy_in.Tie as tie
 
 abbrev Inv-loop : tie.InvT-loop
 Inv-loop d₀ at s i₀ d i = (i ≤ length s) × (d ≡ paste d₀ at s i) × (length d ≡ length d₀)

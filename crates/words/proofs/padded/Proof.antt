@@ -1,8 +1,8 @@
--- `words::word::padded` meets its contract.
-use Rattle.bits.proofs.CopyLaws.{padded-byte}
+-- `words::padded` meets its contract.
+use Rattle.words.proofs.PaddedLaws.{padded-byte}
 use borrow.Author.Needs.{needs}
-use Rattle.words.proofs.word.padded.Statement.{statement}
-use Rattle.words.proofs.word.padded.Tie as tie
+use Rattle.words.proofs.padded.Statement.{statement}
+use Rattle.words.proofs.padded.Tie as tie
 
 slice-aggregate-copy-in : tie.Need-slice-aggregate-copy-in
 slice-aggregate-copy-in c = search needs

@@ -1,9 +1,9 @@
--- `words::word::word_of` meets its contract.
+-- `words::word_of` meets its contract.
 use mathlib.Core.Path.{_∙_}
-use Rattle.bits.proofs.CopyLaws.{padded-word}
+use Rattle.words.proofs.PaddedLaws.{padded-word}
 use borrow.Author.Needs.{needs}
-use Rattle.words.proofs.word.word_of.Statement.{statement}
-use Rattle.words.proofs.word.word_of.Tie as tie
+use Rattle.words.proofs.word_of.Statement.{statement}
+use Rattle.words.proofs.word_of.Tie as tie
 
 whole-word-requires : tie.Need-whole-word-requires
 whole-word-requires c κs = search needs

@@ -1,7 +1,7 @@
--- `words::word::bytes_of` meets its contract.
+-- `words::bytes_of` meets its contract.
 use borrow.Author.Needs.{needs}
-use Rattle.words.proofs.word.bytes_of.Statement.{statement}
-use Rattle.words.proofs.word.bytes_of.Tie as tie
+use Rattle.words.proofs.bytes_of.Statement.{statement}
+use Rattle.words.proofs.bytes_of.Tie as tie
 
 cast-t10 : tie.Need-cast-t10
 cast-t10 c = search needs

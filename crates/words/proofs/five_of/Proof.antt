@@ -1,9 +1,9 @@
--- `words::word::five_of` meets its contract.
+-- `words::five_of` meets its contract.
 use mathlib.Core.Path.{_∙_}
-use Rattle.bits.proofs.CopyLaws.{padded-five}
+use Rattle.words.proofs.PaddedLaws.{padded-five}
 use borrow.Author.Needs.{needs}
-use Rattle.words.proofs.word.five_of.Statement.{statement}
-use Rattle.words.proofs.word.five_of.Tie as tie
+use Rattle.words.proofs.five_of.Statement.{statement}
+use Rattle.words.proofs.five_of.Tie as tie
 
 whole-five-requires : tie.Need-whole-five-requires
 whole-five-requires c κs = search needs

@@ -1,7 +1,7 @@
--- `words::word::joined` meets its contract.
+-- `words::joined` meets its contract.
 use borrow.Author.Needs.{needs}
-use Rattle.words.proofs.word.joined.Statement.{statement}
-use Rattle.words.proofs.word.joined.Tie as tie
+use Rattle.words.proofs.joined.Statement.{statement}
+use Rattle.words.proofs.joined.Tie as tie
 
 mul-result : tie.Need-mul-result
 mul-result c = search needs

@@ -1,0 +1,2 @@
+-- Laws of bytes copied.
+pub mod CopyLaws

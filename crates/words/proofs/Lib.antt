@@ -1,0 +1,2 @@
+-- Laws of records with zeros behind them.
+pub mod PaddedLaws
