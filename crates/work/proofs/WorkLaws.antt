@@ -31,7 +31,7 @@ use Rattle.strata.specs.declared.Stratum.{Stratum}
 use Rattle.strata.specs.Strata.{stratumAt}
 use Rattle.shaft.specs.declared.Shaft.{Shaft}
 use Rattle.shaft.specs.Shafts.{cutOf, noShaft, shaftOf, tableOf}
-use Rattle.pile_checks.specs.Depths.{depthChecks}
+use Rattle.depth_checks.specs.Depths.{depthChecks}
 use Rattle.work.specs.declared.Worked.{Worked}
 use Rattle.work.specs.Work.{workedOut, heldTable, noWork}
 

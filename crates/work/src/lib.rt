@@ -1,12 +1,12 @@
 // What is worked out of a log and a pile record that are lent whole: checks 5 to 12 and 15 in order, the numbers, and the slice table, written in place.
+use depth_checks::depth_refusal;
 use numbers::five_numbers;
 use numbers::pascals;
-use pile_checks::depth_refusal;
-use pile_checks::tip_refusal;
 use replies::refuse;
 use replies::refused;
 use slice_table::PLACES;
 use slice_table::clear_table;
+use tip_checks::tip_refusal;
 ghost use mathlib.Core.Path.{_≡_};
 ghost use mathlib.Core.Bool.{false};
 ghost use lib.ListN.{length, replicate};

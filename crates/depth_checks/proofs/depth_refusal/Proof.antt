@@ -1,10 +1,10 @@
--- `pile_checks::depth_refusal` meets its contract: the first test that holds decides.
+-- `depth_checks::depth_refusal` meets its contract: the first test that holds decides.
 use borrow.Author.Tests.{lt-ltb, le-ltb, le-leb, lt-leb}
 use Rattle.rules.specs.Base.{when, first}
-use Rattle.pile_checks.specs.Depths.{depthChecks}
+use Rattle.depth_checks.specs.Depths.{depthChecks}
 use borrow.Author.Needs.{needs}
-use Rattle.pile_checks.proofs.depth_refusal.Statement.{statement}
-use Rattle.pile_checks.proofs.depth_refusal.Tie as tie
+use Rattle.depth_checks.proofs.depth_refusal.Statement.{statement}
+use Rattle.depth_checks.proofs.depth_refusal.Tie as tie
 
 cast-head : tie.Need-cast-head
 cast-head c = search needs

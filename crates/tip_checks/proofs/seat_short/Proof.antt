@@ -1,8 +1,8 @@
--- `pile_checks::seat_short` meets its contract.
-use Rattle.pile_checks.proofs.SeatLaws.{seat-two, seat-side}
+-- `tip_checks::seat_short` meets its contract.
+use Rattle.tip_checks.proofs.SeatLaws.{seat-two, seat-side}
 use borrow.Author.Needs.{needs}
-use Rattle.pile_checks.proofs.seat_short.Statement.{statement}
-use Rattle.pile_checks.proofs.seat_short.Tie as tie
+use Rattle.tip_checks.proofs.seat_short.Statement.{statement}
+use Rattle.tip_checks.proofs.seat_short.Tie as tie
 
 cast-tip : tie.Need-cast-tip
 cast-tip c = search needs

@@ -1,12 +1,12 @@
--- `pile_checks::tip_refusal` meets its contract: the first test that holds decides.
+-- `tip_checks::tip_refusal` meets its contract: the first test that holds decides.
 use mathlib.Core.Path.{sym, _∙_, ap}
 use borrow.Author.Tests.{lt-ltb, le-ltb, le-leb, lt-leb}
 use Rattle.rules.specs.Base.{when, first}
 use Rattle.rules.specs.Numbers.{isDash}
 use Rattle.rules.specs.Answers.{late}
 use borrow.Author.Needs.{needs}
-use Rattle.pile_checks.proofs.tip_refusal.Statement.{statement}
-use Rattle.pile_checks.proofs.tip_refusal.Tie as tie
+use Rattle.tip_checks.proofs.tip_refusal.Statement.{statement}
+use Rattle.tip_checks.proofs.tip_refusal.Tie as tie
 
 returns : tie.Need-returns
 unfolding late first when

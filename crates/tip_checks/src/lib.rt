@@ -1,11 +1,10 @@
-// Checks 7 to 12, each by what it looks at.
+// Checks 9 to 12, which look at the soil below the tip, its stratum and the tip table.
 ghost use mathlib.Core.Path.{_≡_};
 ghost use Prim.Native.Nat.{_≤_, max};
 ghost use Rattle.rules.specs.Base as base;
 ghost use Rattle.rules.specs.Numbers.{tipOf, tipRead};
 ghost use Rattle.rules.specs.Numbers as numbers;
 ghost use Rattle.rules.specs.Answers.{seatShort, late};
-ghost use Rattle.pile_checks.specs.Depths.{depthChecks};
 use rules::Pile;
 use rules::Soil;
 use rules::TipRead;
@@ -17,27 +16,6 @@ fn larger(a: u64, b: u64) -> u64
         return b;
     }
     a
-}
-
-// Checks 7 and 8: the number of the first that refuses, or 0.
-pub fn depth_refusal(pile: Pile, depth: u64) -> u32
-    ensures { λ r. ⌜ base.refuse r ≡ depthChecks depth pile ⌝ }
-{
-    let head = pile.head as u64;
-    let tip = pile.tip as u64;
-    if tip <= head {
-        return 7;
-    }
-    if tip < 3000 {
-        return 7;
-    }
-    if 40000 < tip {
-        return 7;
-    }
-    if depth < tip + 5000 {
-        return 8;
-    }
-    0
 }
 
 // Check 10, by the top of the tip's stratum.

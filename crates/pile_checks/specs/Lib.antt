@@ -1,2 +1,0 @@
--- Checks 7 to 12.
-pub mod Depths

@@ -1,0 +1,2 @@
+-- Laws of checks 9 to 12.
+pub mod SeatLaws
