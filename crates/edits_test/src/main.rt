@@ -2,10 +2,9 @@
 // one of the three. After an edit it prints the reply and a sum of the log's and of the table's bytes.
 use rules::Answer;
 ghost use Prim.Native.Nat.{_≤_, _<_};
+ghost use Rattle.io.specs.Counts.{Counts};
 
 const STEP_LIMIT: usize = 10000;
-
-const STEP_SIZE: usize = 25;
 
 const SUM_BASE: u64 = 1000000007;
 
@@ -16,18 +15,6 @@ fn least(n: usize, most: usize) -> usize
         return n;
     }
     most
-}
-
-fn two(a: u8, b: u8) -> u32
-    ensures { λ r. ⌜ r < 65536 ⌝ }
-{
-    a as u32 * 256 + b as u32
-}
-
-fn four(high: u32, low: u32) -> u32
-    requires { ⌜ (high < 65536) × (low < 65536) ⌝ }
-{
-    high * 65536 + low
 }
 
 fn wide(x: u8) -> u64
@@ -53,23 +40,17 @@ fn put_byte(t: &mut [u8], at: usize, byte: u8) {
     }
 }
 
-// The first n of the bytes, from `at` on.
-fn put(t: &mut [u8], at: usize, bytes: [u8; 5], n: usize)
-    requires { ⌜ (at < 65536) × (n ≤ 5) ⌝ }
-{
-    let mut i: usize = 0;
-    while i < n {
-        put_byte(t, at + i, bytes[i]);
-        i += 1;
-    }
-}
-
 fn say(n: u64) {
     io::print_decimal(1, n);
     io::write_all(1, b" ");
 }
 
-fn show(a: Answer, log: u64, table: u64) {
+fn say_last(n: u64) {
+    io::print_decimal(1, n);
+    io::write_all(1, b"\n");
+}
+
+fn show(a: Answer) {
     let refusal = a.refusal;
     say(refusal.number as u64);
     say(refusal.row as u64);
@@ -80,83 +61,107 @@ fn show(a: Answer, log: u64, table: u64) {
     say(a.shaft);
     say(a.capacity);
     say(a.uplift);
-    say(log);
-    io::print_decimal(1, table);
-    io::write_all(1, b"\n");
 }
 
-// How much of the log, the pile record, the table and the new row is lent.
-struct Lent {
+// What comes next on standard input: a byte, 255 at its end.
+fn byte() -> u8 {
+    let mut s = [255u8; 1];
+    io::read_full(0, &mut s);
+    s[0]
+}
+
+// Two bytes as one number.
+fn two() -> u32
+    ensures { λ r. ⌜ r < 65536 ⌝ }
+{
+    let high = byte();
+    high as u32 * 256 + byte() as u32
+}
+
+fn four() -> u32 {
+    let high = two();
+    high * 65536 + two()
+}
+
+// A step: how much of the log, the pile record and the table is lent, the edit, how much of the new row is lent, and its bytes.
+struct Step {
     log: u32,
     pile: u32,
     table: u32,
-    row: u32,
-}
-
-// The four bytes from i on, as one number.
-fn number(s: [u8; 25], i: usize) -> u32
-    requires { ⌜ i ≤ 21 ⌝ }
-{
-    four(two(s[i], s[i + 1]), two(s[i + 2], s[i + 3]))
-}
-
-fn ask(
-    log: &mut [u8],
-    pile: &[u8],
-    table: &mut [u8],
-    lent: Lent,
     kind: u32,
     k: u32,
     x: u32,
-    row: &[u8],
-) -> Answer {
-    let a = io::count(lent.log as isize, log);
-    let b = io::count(lent.pile as isize, pile);
-    let c = io::count(lent.table as isize, table);
-    let d = io::count(lent.row as isize, row);
-    edits::edit(
+    lent: u8,
+    row: [u8; 8],
+}
+
+fn next_row() -> [u8; 8] {
+    let mut row = [0u8; 8];
+    io::read_full(0, &mut row[..5]);
+    row
+}
+
+fn next_step() -> Step {
+    Step {
+        log: two(),
+        pile: two(),
+        table: two(),
+        kind: four(),
+        k: four(),
+        x: four(),
+        lent: byte(),
+        row: next_row(),
+    }
+}
+
+// The new row's bytes that are lent, from k on.
+fn put(t: &mut [u8], s: Step) {
+    let n = least(s.lent as usize, 5);
+    let bytes = s.row;
+    let mut i: usize = 0;
+    while i < n {
+        put_byte(t, s.k as usize + i, bytes[i]);
+        i += 1;
+    }
+}
+
+fn part(n: u32, s: &[u8]) -> usize
+    ensures { λ r. ⌜ Counts r (now (s .entry)) ⌝ }
+{
+    io::count(n as isize, s)
+}
+
+fn ask(log: &mut [u8], pile: &[u8], table: &mut [u8], s: Step, row: &[u8]) {
+    let a = part(s.log, log);
+    let b = part(s.pile, pile);
+    let c = part(s.table, table);
+    show(edits::edit(
         &mut log[..a],
         &pile[..b],
         &mut table[..c],
-        kind,
-        k,
-        x,
-        &row[..d],
-    )
+        s.kind,
+        s.k,
+        s.x,
+        row,
+    ));
 }
 
-// Bytes 1 to 6 say how much of each of the three is lent, 7 to 18 are kind, k and x, 19 is the new row's length, and its bytes follow.
-fn edit(log: &mut [u8], pile: &[u8], table: &mut [u8], s: [u8; 25]) {
-    let lent = Lent {
-        log: two(s[1], s[2]),
-        pile: two(s[3], s[4]),
-        table: two(s[5], s[6]),
-        row: two(0, s[19]),
-    };
-    let row = [s[20], s[21], s[22], s[23], s[24], 0, 0, 0];
-    let reply = ask(
-        log,
-        pile,
-        table,
-        lent,
-        number(s, 7),
-        number(s, 11),
-        number(s, 15),
-        &row,
-    );
-    show(reply, sum(log), sum(table));
+fn edit(log: &mut [u8], pile: &[u8], table: &mut [u8], s: Step) {
+    let row = s.row;
+    let n = part(s.lent as u32, &row);
+    ask(log, pile, table, s, &row[..n]);
+    say(sum(log));
+    say_last(sum(table));
 }
 
-// Byte 0 is 0 for an edit; 1, 2 and 3 put bytes into the log, the pile record and the table, at k.
-fn run(log: &mut [u8], pile: &mut [u8], table: &mut [u8], s: [u8; 25]) {
-    let at = two(s[13], s[14]) as usize;
-    let bytes = [s[20], s[21], s[22], s[23], s[24]];
-    let n = least(two(0, s[19]) as usize, 5);
-    match s[0] {
+// Kind 0 is an edit; 1, 2 and 3 put bytes into the log, the pile record and the table, at k.
+fn run(log: &mut [u8], pile: &mut [u8], table: &mut [u8], kind: u8) {
+    let s = next_step();
+    match kind {
         0 => edit(log, pile, table, s),
-        1 => put(log, at, bytes, n),
-        2 => put(pile, at, bytes, n),
-        _ => put(table, at, bytes, n),
+        1 => put(log, s),
+        2 => put(pile, s),
+        _ => put(table, s),
     }
 }
 
@@ -164,13 +169,13 @@ fn main() {
     let mut log = [0u8; 400];
     let mut pile = [0u8; 20];
     let mut table = [0u8; 700];
-    let mut s = [0u8; 25];
     let mut i: usize = 0;
     while i < STEP_LIMIT {
-        if io::read_full(0, &mut s) < STEP_SIZE {
+        let kind = byte();
+        if kind == 255 {
             return;
         }
-        run(&mut log, &mut pile, &mut table, s);
+        run(&mut log, &mut pile, &mut table, kind);
         i += 1;
     }
 }

@@ -1,27 +1,29 @@
 // Cases that read.
 use super::show::bytes;
-use super::show::end_line;
 use super::show::number;
+use super::show::pile;
 use super::show::refusal;
 use super::show::row;
 use super::show::rows_weight;
+use super::show::slice;
+use super::show::small;
 use super::show::used_row;
+use super::show::word;
 use libc::STDOUT_FILENO;
 
 pub(crate) fn read_log(s: &[u8]) {
-    let got = logs::read_log(s);
     io::write_all(STDOUT_FILENO, b"log");
+    let got = logs::read_log(s);
     refusal(got.refusal);
     let l = got.log;
-    number(l.count as u64);
+    small(l.count);
     number(rows_weight(l));
-    end_line();
 }
 
 // Every row that is used, field by field.
 pub(crate) fn read_rows(s: &[u8]) {
-    let got = logs::read_log(s);
     io::write_all(STDOUT_FILENO, b"rows");
+    let got = logs::read_log(s);
     let l = got.log;
     let mut i: usize = 0;
     while i < 64 {
@@ -29,43 +31,28 @@ pub(crate) fn read_rows(s: &[u8]) {
         used_row(r);
         i += 1;
     }
-    end_line();
 }
 
 pub(crate) fn read_pile(s: &[u8]) {
-    let got = piles::read_pile(s);
     io::write_all(STDOUT_FILENO, b"pile");
+    let got = piles::read_pile(s);
     refusal(got.refusal);
-    let p = got.pile;
-    number(p.section as u64);
-    number(p.a as u64);
-    number(p.b as u64);
-    number(p.method as u64);
-    number(p.head as u64);
-    number(p.tip as u64);
-    number(p.zero as u64);
-    end_line();
+    pile(got.pile);
 }
 
 // Place i, counted from 0.
 pub(crate) fn read_slice(s: &[u8], i: u16) {
-    let got = slices::read_slice(s, i as u32);
     io::write_all(STDOUT_FILENO, b"slice");
-    number(got.refusal as u64);
-    let c = got.slice;
-    number(c.top as u64);
-    number(c.thickness as u64);
-    number(c.friction as u64);
-    number(c.factor as u64);
-    end_line();
+    let got = slices::read_slice(s, i as u32);
+    word(got.refusal);
+    slice(got.slice);
 }
 
 // The row that begins at byte i, its wrong field, and its bytes.
 pub(crate) fn read_row(s: &[u8], i: u16) {
-    let r = rows::read_row(s, i as usize);
     io::write_all(STDOUT_FILENO, b"row");
+    let r = rows::read_row(s, i as usize);
     row(r);
-    number(row_ranges::row_field(r) as u64);
+    word(row_ranges::row_field(r));
     bytes(&rows::row_bytes(r));
-    end_line();
 }

@@ -1,16 +1,9 @@
 // What the lines are made of: numbers, refusals, rows, bytes.
 use libc::STDOUT_FILENO;
+use rules::Pile;
 use rules::Refusal;
 use rules::Row;
-ghost use mathlib.Core.Path.{_≡_};
-ghost use Prim.Native.Nat.{_+_, _*_};
-
-// Two bytes as one number.
-pub(crate) fn wide(high: u8, low: u8) -> u16
-    ensures { λ r. ⌜ r ≡ high * 256 + low ⌝ }
-{
-    high as u16 * 256 + low as u16
-}
+use rules::Slice;
 
 fn one(x: u8) -> u64 {
     x as u64
@@ -21,22 +14,51 @@ pub(crate) fn number(n: u64) {
     io::print_decimal(STDOUT_FILENO, n);
 }
 
+pub(crate) fn small(n: u8) {
+    number(n as u64);
+}
+
+fn wide(n: u16) {
+    number(n as u64);
+}
+
+pub(crate) fn word(n: u32) {
+    number(n as u64);
+}
+
 pub(crate) fn end_line() {
     io::write_all(STDOUT_FILENO, b"\n");
 }
 
 pub(crate) fn refusal(r: Refusal) {
-    number(r.number as u64);
-    number(r.row as u64);
-    number(r.field as u64);
+    word(r.number);
+    word(r.row);
+    word(r.field);
 }
 
 pub(crate) fn row(r: Row) {
-    number(r.thickness as u64);
-    number(r.kind as u64);
-    number(r.index as u64);
-    number(r.saturation as u64);
-    number(r.zero as u64);
+    wide(r.thickness);
+    small(r.kind);
+    small(r.index);
+    small(r.saturation);
+    small(r.zero);
+}
+
+pub(crate) fn pile(p: Pile) {
+    small(p.section);
+    wide(p.a);
+    wide(p.b);
+    small(p.method);
+    wide(p.head);
+    wide(p.tip);
+    small(p.zero);
+}
+
+pub(crate) fn slice(c: Slice) {
+    wide(c.top);
+    wide(c.thickness);
+    word(c.friction);
+    small(c.factor);
 }
 
 // The row of a place that is used.

@@ -7,19 +7,16 @@ use Rattle.edits_test.proofs.main.Statement.{statement}
 use Rattle.edits_test.proofs.main.Tie as tie
 
 abbrev Inv-loop : tie.InvT-loop
-Inv-loop log₀ pile₀ table₀ s₀ i₀ log pile table s i = (length log ≡ 400) × (length pile ≡ 20) × (length table ≡ 700) × (length s ≡ 25)
+Inv-loop log₀ pile₀ table₀ i₀ log pile table i = (length log ≡ 400) × (length pile ≡ 20) × (length table ≡ 700)
 
 abbrev μ-loop : tie.MeasureT-loop
-μ-loop log₀ pile₀ table₀ s₀ i₀ log pile table s i = 10000 - i
+μ-loop log₀ pile₀ table₀ i₀ log pile table i = 10000 - i
 
 loop-holds : tie.Need-loop-holds Inv-loop μ-loop
 loop-holds c = search needs
 
-slice-aggregate-read-full : tie.Need-slice-aggregate-read-full Inv-loop μ-loop
-slice-aggregate-read-full c = search needs
-
-read-full-requires : tie.Need-read-full-requires Inv-loop μ-loop
-read-full-requires c κs = search needs
+byte-requires : tie.Need-byte-requires Inv-loop μ-loop
+byte-requires c κs = search needs
 
 returns : tie.Need-returns Inv-loop μ-loop
 returns c = search needs
@@ -55,8 +52,7 @@ main-spec =
     Inv-loop
     μ-loop
     loop-holds
-    slice-aggregate-read-full
-    read-full-requires
+    byte-requires
     returns
     slice-aggregate-run
     slice-aggregate-run-2

@@ -7,13 +7,22 @@ use Rattle.edits_test.proofs.put.Statement.{statement}
 use Rattle.edits_test.proofs.put.Tie as tie
 
 abbrev Inv-loop : tie.InvT-loop
-Inv-loop t₀ at n bytes i₀ t i = (i ≤ n) × (length t ≡ length t₀)
+Inv-loop t₀ s n bytes i₀ t i = (i ≤ n) × (length t ≡ length t₀)
 
 abbrev μ-loop : tie.MeasureT-loop
-μ-loop t₀ at n bytes i₀ t i = n - i
+μ-loop t₀ s n bytes i₀ t i = n - i
+
+cast-least : tie.Need-cast-least Inv-loop μ-loop
+cast-least c = search needs
+
+least-requires : tie.Need-least-requires Inv-loop μ-loop
+least-requires c κs = search needs
 
 loop-holds : tie.Need-loop-holds Inv-loop μ-loop
 loop-holds c = search needs
+
+cast-put-byte : tie.Need-cast-put-byte Inv-loop μ-loop
+cast-put-byte c = search needs
 
 add-put-byte : tie.Need-add-put-byte Inv-loop μ-loop
 add-put-byte c = search needs
@@ -45,7 +54,10 @@ put-spec =
     (tie.spec
     Inv-loop
     μ-loop
+    cast-least
+    least-requires
     loop-holds
+    cast-put-byte
     add-put-byte
     array-read-put-byte
     put-byte-requires

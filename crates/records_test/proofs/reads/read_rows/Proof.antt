@@ -10,14 +10,14 @@ Inv-loop s l i₀ i = i ≤ 64
 abbrev μ-loop : tie.MeasureT-loop
 μ-loop s l i₀ i = 64 - i
 
-read-log-requires : tie.Need-read-log-requires Inv-loop μ-loop
-read-log-requires c κs = search needs
-
 slice-aggregate-write-all : tie.Need-slice-aggregate-write-all Inv-loop μ-loop
 slice-aggregate-write-all c = search needs
 
 write-all-requires : tie.Need-write-all-requires Inv-loop μ-loop
 write-all-requires c κs = search needs
+
+read-log-requires : tie.Need-read-log-requires Inv-loop μ-loop
+read-log-requires c κs = search needs
 
 loop-holds : tie.Need-loop-holds Inv-loop μ-loop
 loop-holds c = search needs
@@ -40,9 +40,6 @@ loop-less c = search needs
 loop-again : tie.Need-loop-again Inv-loop μ-loop
 loop-again c = search needs
 
-end-line-requires : tie.Need-end-line-requires Inv-loop μ-loop
-end-line-requires c κs = search needs
-
 returns : tie.Need-returns Inv-loop μ-loop
 returns c = search needs
 
@@ -52,9 +49,9 @@ read-rows-spec =
     (tie.spec
     Inv-loop
     μ-loop
-    read-log-requires
     slice-aggregate-write-all
     write-all-requires
+    read-log-requires
     loop-holds
     mul-r
     element-copy-out-r
@@ -62,5 +59,4 @@ read-rows-spec =
     add-i
     loop-less
     loop-again
-    end-line-requires
     returns)

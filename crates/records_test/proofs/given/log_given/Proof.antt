@@ -1,17 +1,20 @@
--- `records_test::packs::log_given` is safe and ends.
+-- `records_test::given::log_given` is safe and ends.
 use Prim.Native.Nat.{_-_, _≤_}
 use borrow.Author.Needs.{needs}
-use Rattle.records_test.proofs.packs.log_given.Statement.{statement}
-use Rattle.records_test.proofs.packs.log_given.Tie as tie
+use Rattle.records_test.proofs.given.log_given.Statement.{statement}
+use Rattle.records_test.proofs.given.log_given.Tie as tie
 
 abbrev Inv-loop : tie.InvT-loop
-Inv-loop given l₀ i₀ l i = i ≤ 64
+Inv-loop s l₀ i₀ l i = i ≤ 64
 
 abbrev μ-loop : tie.MeasureT-loop
-μ-loop given l₀ i₀ l i = 64 - i
+μ-loop s l₀ i₀ l i = 64 - i
 
-array-read-t8 : tie.Need-array-read-t8 Inv-loop μ-loop
-array-read-t8 c = search needs
+byte-requires : tie.Need-byte-requires Inv-loop μ-loop
+byte-requires c κs = search needs
+
+row-given-requires : tie.Need-row-given-requires Inv-loop μ-loop
+row-given-requires c κs = search needs
 
 loop-holds : tie.Need-loop-holds Inv-loop μ-loop
 loop-holds c = search needs
@@ -22,11 +25,11 @@ mul-row-given c = search needs
 add-row-given : tie.Need-add-row-given Inv-loop μ-loop
 add-row-given c = search needs
 
-row-given-requires : tie.Need-row-given-requires Inv-loop μ-loop
-row-given-requires c κs = search needs
+row-given-requires-2 : tie.Need-row-given-requires-2 Inv-loop μ-loop
+row-given-requires-2 c κs = search needs
 
-mul-t15 : tie.Need-mul-t15 Inv-loop μ-loop
-mul-t15 c = search needs
+mul-t11 : tie.Need-mul-t11 Inv-loop μ-loop
+mul-t11 c = search needs
 
 element-set-from-l : tie.Need-element-set-from-l Inv-loop μ-loop
 element-set-from-l c = search needs
@@ -49,12 +52,13 @@ log-given-spec =
     (tie.spec
     Inv-loop
     μ-loop
-    array-read-t8
+    byte-requires
+    row-given-requires
     loop-holds
     mul-row-given
     add-row-given
-    row-given-requires
-    mul-t15
+    row-given-requires-2
+    mul-t11
     element-set-from-l
     add-i
     loop-less
