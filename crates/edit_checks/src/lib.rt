@@ -41,7 +41,7 @@ fn lengths_wrong(log: &[u8], pile: &[u8], table: &[u8], kind: u32, row: &[u8]) -
     if table.len() != TABLE_SIZE {
         return true;
     }
-    if !naming::brings(kind) {
+    if !room::brings(kind) {
         return false;
     }
     row.len() != ROW_SIZE
@@ -51,7 +51,7 @@ fn lengths_wrong(log: &[u8], pile: &[u8], table: &[u8], kind: u32, row: &[u8]) -
 fn new_row_refusal(kind: u32, k: u32, row: &[u8]) -> Refusal
     ensures { λ r. ⌜ r ≡ rule.newRowCheck (asked kind k 0 (now (row .entry))) ⌝ }
 {
-    if !naming::brings(kind) {
+    if !room::brings(kind) {
         return replies::refuse(0);
     }
     let f = row_ranges::row_field(rows::read_row(row, 0));
@@ -83,7 +83,7 @@ fn gone(log: &[u8], kind: u32, k: u32) -> u64
 fn come(kind: u32, row: &[u8]) -> u64
     ensures { λ r. ⌜ (r ≡ comes kind (now (row .entry))) × (r < 65536) ⌝ }
 {
-    if !naming::brings(kind) {
+    if !room::brings(kind) {
         return 0;
     }
     let new = rows::read_row(row, 0);
@@ -98,7 +98,7 @@ fn check_change(log: &[u8], depth: u64, kind: u32, k: u32, x: u32, row: &[u8]) -
     if !naming::stands(log, kind, k, x) {
         return refused(13);
     }
-    if naming::full(log, kind) {
+    if room::full(log, kind) {
         return refused(14);
     }
     let new = new_row_refusal(kind, k, row);

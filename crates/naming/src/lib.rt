@@ -1,5 +1,5 @@
-// What an edit names: one of four kinds, a row of the log, a split point in it, and a place for a row that comes. Checks 13 and 14.
-// Each `requires` but named_row's is that the log has a first byte; check 1 comes before.
+// What an edit names: one of four kinds, a row of the log and a split point in it. Check 13.
+// `stands` requires that the log has a first byte; check 1 comes before.
 use rules::Row;
 ghost use mathlib.Core.Path.{_≡_};
 ghost use mathlib.Core.List.{[]};
@@ -8,11 +8,8 @@ ghost use lib.ListN.{length};
 ghost use Rattle.rules.specs.Packed.{countOf};
 ghost use Rattle.rules.specs.Edits as rule;
 ghost use Rattle.edited.specs.Asked.{asked};
-ghost use Rattle.edited.specs.Asked as asking;
 
 const ROW_SIZE: usize = 5;
-
-const ROW_LIMIT: u32 = 64;
 
 // Whether k names one of n rows.
 fn named(k: u32, n: u32) -> bool
@@ -25,23 +22,6 @@ fn named(k: u32, n: u32) -> bool
         return false;
     }
     true
-}
-
-// Replace and insert.
-pub fn brings(kind: u32) -> bool
-    ensures { λ r. ⌜ r ≡ rule.brings kind ⌝ }
-{
-    named(kind, 2)
-}
-
-// Insert and split.
-fn grows(kind: u32) -> bool
-    ensures { λ r. ⌜ r ≡ rule.grows kind ⌝ }
-{
-    if kind == 2 {
-        return true;
-    }
-    kind == 4
 }
 
 fn count_of(log: &[u8]) -> u32
@@ -92,15 +72,4 @@ pub fn stands(log: &[u8], kind: u32, k: u32, x: u32) -> bool
         4 => split_stands(log, n, k, x),
         _ => false,
     }
-}
-
-// Check 14.
-pub fn full(log: &[u8], kind: u32) -> bool
-    requires { ⌜ 1 ≤ length (now log) ⌝ }
-    ensures { λ r. ⌜ r ≡ asking.full kind (countOf (now (log .entry))) ⌝ }
-{
-    if !grows(kind) {
-        return false;
-    }
-    ROW_LIMIT <= count_of(log)
 }

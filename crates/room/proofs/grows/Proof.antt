@@ -1,7 +1,7 @@
 -- grows: 2 or 4.
 use borrow.Author.Tests.{eq-eqb, ne-eqb}
-use Rattle.naming.proofs.grows.Statement.{statement}
-use Rattle.naming.proofs.grows.Tie as tie
+use Rattle.room.proofs.grows.Statement.{statement}
+use Rattle.room.proofs.grows.Tie as tie
 
 returns : tie.Need-returns
 returns c = simp (eq-eqb _ _ (c .if1 .taken))
