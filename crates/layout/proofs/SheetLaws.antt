@@ -11,9 +11,9 @@ use Rattle.rules.specs.Base.{refuses}
 use Rattle.rules.specs.Sheet.{answerLine, sliceLine, totalLine, sliceLines, sheetOf}
 use Rattle.rules.specs.declared.Answer.{Answer}
 use Rattle.rules.specs.declared.Slice.{Slice}
-use Rattle.layout.specs.Lines.{lineRoom, LinePut, Holds}
+use Rattle.lines.specs.Lines.{lineRoom, LinePut, Holds}
 use Rattle.layout.specs.Sheets.{sheetTo}
-use Rattle.layout.proofs.LineLaws.{holds-none, holds-line}
+use Rattle.lines.proofs.LineLaws.{holds-none, holds-line}
 use Rattle.layout.proofs.LengthLaws.{length-answer, length-slice, length-total}
 
 pub lines-append : (cs ds : List Slice) → sliceLines (cs ++ ds) ≡ sliceLines cs ++ sliceLines ds

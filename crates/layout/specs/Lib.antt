@@ -1,3 +1,2 @@
--- What it is to put a line into a buffer, and a sheet while it is put together.
-pub mod Lines
+-- A sheet while it is put together.
 pub mod Sheets

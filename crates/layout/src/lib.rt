@@ -5,7 +5,7 @@
 // and then, where a refuses nothing, for each slice c in order and once at the end
 //     at = put_slice(buf, at, c);
 //     at = put_total(buf, at, a);
-// after which buf[..at] is the sheet. Each call hands back the place behind its line. Where fewer than ROOM bytes are left
+// after which buf[..at] is the sheet. Each call hands back the place behind its line. Where fewer than 120 bytes are left
 // it stores nothing, and the place stays. That never comes to pass in 4,096 bytes: by the `short` clauses the place is at
 // most 40 + 33 * i after i slices, so a whole sheet of 83 has at most 2,890 bytes.
 //
@@ -13,31 +13,9 @@
 // from call to call: sheet-begun, sheet-more, sheet-ended, and sheet-refused.
 use rules::Answer;
 use rules::Slice;
-ghost use mathlib.Core.Path.{_≡_};
 ghost use Prim.Native.Nat.{_+_, _≤_};
-ghost use lib.ListN.{length};
-ghost use Rattle.rules.specs.Sheet.{textLine, answerLine, sliceLine, totalLine};
-ghost use Rattle.layout.specs.Lines.{LinePut};
-
-// A line is put only where so many bytes are left, which is more than any line has.
-const ROOM: usize = 120;
-
-// A word, its numbers, and a newline, where there is room.
-fn put_line(buf: &mut [u8], at: usize, word: &[u8], xs: &[u64]) -> usize
-    requires { ⌜ (length (now word) ≤ 6) × (length (now xs) ≤ 5) ⌝ }
-    ensures { λ r. ⌜ LinePut (now (buf .entry)) at (textLine (now (word .entry)) (now (xs .entry))) (now (buf .exit)) r ⌝ }
-{
-    if buf.len() < at {
-        return at;
-    }
-    if buf.len() - at < ROOM {
-        return at;
-    }
-    let behind = writing::put_bytes(buf, at, word);
-    let next = writing::put_numbers(buf, behind, xs);
-    buf[next] = 10;
-    next + 1
-}
+ghost use Rattle.rules.specs.Sheet.{answerLine, sliceLine, totalLine};
+ghost use Rattle.lines.specs.Lines.{LinePut};
 
 // The answer line: refusal number, row and field.
 pub fn put_answer(buf: &mut [u8], at: usize, a: Answer) -> usize
@@ -50,7 +28,7 @@ pub fn put_answer(buf: &mut [u8], at: usize, a: Answer) -> usize
         refusal.row as u64,
         refusal.field as u64,
     ];
-    put_line(buf, at, b"answer", &xs)
+    lines::put_line(buf, at, b"answer", &xs)
 }
 
 // A slice line: top, thickness, friction and factor.
@@ -64,7 +42,7 @@ pub fn put_slice(buf: &mut [u8], at: usize, c: Slice) -> usize
         c.friction as u64,
         c.factor as u64,
     ];
-    put_line(buf, at, b"slice", &xs)
+    lines::put_line(buf, at, b"slice", &xs)
 }
 
 // The total line: line, tip, shaft, capacity and uplift.
@@ -73,5 +51,5 @@ pub fn put_total(buf: &mut [u8], at: usize, a: Answer) -> usize
     ensures short { λ r. ⌜ r ≤ at + 111 ⌝ }
 {
     let xs = [a.line, a.tip, a.shaft, a.capacity, a.uplift];
-    put_line(buf, at, b"total", &xs)
+    lines::put_line(buf, at, b"total", &xs)
 }

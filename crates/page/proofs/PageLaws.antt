@@ -18,10 +18,10 @@ use Rattle.rules.specs.Reading.{noSlice, readSlice}
 use Rattle.rules.specs.Calculation.{slicesOfRows, freshTable, lentChecks, calculated, tableAfter}
 use Rattle.rules.specs.Sheet.{answerLine, sliceLine, totalLine, sheetOf, sheetText}
 use Rattle.rules.proofs.Basics.{sure, split}
-use Rattle.layout.specs.Lines.{lineRoom, LinePut}
+use Rattle.lines.specs.Lines.{lineRoom, LinePut}
 use Rattle.layout.specs.Sheets.{sheetTo}
 use Rattle.writing.proofs.PutLaws.{put-is}
-use Rattle.layout.proofs.LineLaws.{after-room, end-room}
+use Rattle.lines.proofs.LineLaws.{after-room, end-room}
 use Rattle.layout.proofs.LengthLaws.{length-answer, length-slice, length-total}
 use Rattle.layout.proofs.SheetLaws.{sheet-begun, sheet-more, sheet-ended, sheet-refused}
 use Rattle.page.specs.declared.Page.{Page}

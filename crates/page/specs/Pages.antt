@@ -3,7 +3,7 @@ use mathlib.Core.Path.{_≡_}
 use mathlib.Core.List.{List, _++_}
 use Prim.Native.Nat.{ℕ, _-_}
 use lib.ListN.{length, drop, replicate}
-use Rattle.layout.specs.Lines.{Holds}
+use Rattle.lines.specs.Lines.{Holds}
 use Rattle.page.specs.declared.Page.{Page}
 
 abbrev pub pageSize : ℕ

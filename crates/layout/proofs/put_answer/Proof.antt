@@ -1,7 +1,7 @@
 -- `put_answer` puts the line of the refusal number, row and field: what `put_line` leaves.
 use native.Mathlib.Omega.{arith}
 use Rattle.rules.specs.Sheet.{answerLine}
-use Rattle.layout.proofs.LineLaws.{line-short}
+use Rattle.lines.proofs.LineLaws.{line-short}
 use Rattle.layout.proofs.LengthLaws.{short-answer}
 use borrow.Author.Needs.{needs}
 use Rattle.layout.proofs.put_answer.Statement.{statement}

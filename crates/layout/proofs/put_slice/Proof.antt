@@ -1,7 +1,7 @@
 -- `put_slice` puts the line of the slice's four fields: what `put_line` leaves.
 use native.Mathlib.Omega.{arith}
 use Rattle.rules.specs.Sheet.{sliceLine}
-use Rattle.layout.proofs.LineLaws.{line-short}
+use Rattle.lines.proofs.LineLaws.{line-short}
 use Rattle.layout.proofs.LengthLaws.{short-slice}
 use borrow.Author.Needs.{needs}
 use Rattle.layout.proofs.put_slice.Statement.{statement}

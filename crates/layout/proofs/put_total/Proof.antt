@@ -1,6 +1,6 @@
 -- `put_total` puts the line of the answer's five numbers: what `put_line` leaves.
 use Rattle.rules.specs.Sheet.{totalLine}
-use Rattle.layout.proofs.LineLaws.{line-short}
+use Rattle.lines.proofs.LineLaws.{line-short}
 use Rattle.layout.proofs.LengthLaws.{length-total}
 use borrow.Author.Needs.{needs}
 use Rattle.layout.proofs.put_total.Statement.{statement}

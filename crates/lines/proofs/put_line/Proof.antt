@@ -1,11 +1,11 @@
 -- `put_line` puts a word, its numbers and a newline where there is room, and else nothing.
 use native.Mathlib.Omega.{arith}
 use lib.ListN.{length-set}
-use Rattle.layout.proofs.LineLaws.{text-put, line-put, line-none}
+use Rattle.lines.proofs.LineLaws.{text-put, line-put, line-none}
 use Rattle.writing.proofs.SpacedLaws.{length-spaced}
 use borrow.Author.Needs.{needs}
-use Rattle.layout.proofs.put_line.Statement.{statement}
-use Rattle.layout.proofs.put_line.Tie as tie
+use Rattle.lines.proofs.put_line.Statement.{statement}
+use Rattle.lines.proofs.put_line.Tie as tie
 
 returns : tie.Need-returns
 returns c = line-none _ _ _ (omega arith)

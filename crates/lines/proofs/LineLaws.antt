@@ -10,7 +10,7 @@ use lib.Seq.{drop-cons}
 use borrow.Author.Tests.{le-leb, lt-leb}
 use Rattle.rules.specs.Sheet.{decimal, spaced, textLine}
 use Rattle.writing.specs.Text.{putAt, Put}
-use Rattle.layout.specs.Lines.{lineRoom, lineAfter, lineEnd, LinePut, Holds}
+use Rattle.lines.specs.Lines.{lineRoom, lineAfter, lineEnd, LinePut, Holds}
 use Rattle.writing.proofs.PutLaws.{put-then, put-one, take-put, length-put}
 use Rattle.rules.proofs.Basics.{split}
 

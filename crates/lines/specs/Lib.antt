@@ -1,0 +1,2 @@
+-- What it is to put a line into a buffer.
+pub mod Lines
