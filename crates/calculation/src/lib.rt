@@ -1,12 +1,11 @@
 // The plain calculation: checks 1 to 4, then what is worked out.
 use replies::refuse;
 use replies::refused;
-use slice_table::TABLE_SIZE;
 ghost use mathlib.Core.Path.{_≡_};
 ghost use Rattle.rules.specs.Calculation.{calculated, tableAfter};
 use rules::Answer;
-
-const PILE_SIZE: usize = 8;
+use rules::PILE_SIZE;
+use rules::TABLE_SIZE;
 
 // The reply of a log, a pile record and a slice table of any length, and the table afterwards.
 pub fn calculate(log: &[u8], pile: &[u8], table: &mut [u8]) -> Answer

@@ -1,4 +1,5 @@
 // The log as an accepted edit leaves it. `requires` is that the checks let the edit pass.
+use rules::ROW_SIZE;
 use rules::Row;
 ghost use mathlib.Core.Path.{_≡_};
 ghost use Prim.Native.Nat.{_≤_, _<_};
@@ -10,7 +11,7 @@ ghost use Rattle.rules.specs.Edits as rule;
 ghost use Rattle.edited.specs.Asked.{asked, Ready};
 
 // The five bytes of the row that was brought.
-fn five(row: &[u8]) -> [u8; 5]
+fn five(row: &[u8]) -> [u8; ROW_SIZE]
     requires { ⌜ length (now row) ≡ rowSize ⌝ }
     ensures { λ r. ⌜ r ≡ now (row .entry) ⌝ }
 {

@@ -8,10 +8,9 @@ ghost use Rattle.friction_table.specs.Printed.{Lent};
 ghost use Rattle.slice_table.specs.Table.{putAt};
 ghost use Rattle.cuts.specs.Cuts.{sliceHere, Fields, Read, Weighed, Done};
 use rules::Pile;
+use rules::SLICE_LIMIT;
 use rules::Slice;
 use rules::Soil;
-
-const SLICE_LIMIT: u64 = 2000;
 
 // How thick a slice is, and friction × thickness × factor.
 pub struct Cut {

@@ -1,22 +1,17 @@
 // The refusals of an edit, in order: 1 to 4 of what is lent, 13, 14, 3 for the new row, 4 for the new log; and how deep the new log is.
 use logs::Checked;
+use rules::DEPTH_LIMIT;
+use rules::LOG_SIZE;
+use rules::PILE_SIZE;
+use rules::ROW_SIZE;
 use rules::Refusal;
+use rules::TABLE_SIZE;
 ghost use mathlib.Core.Path.{_≡_};
 ghost use Prim.Native.Nat.{_≤_, _<_};
 ghost use Rattle.rules.specs.Base.{refuse};
 ghost use Rattle.rules.specs.Edits as rule;
 ghost use Rattle.edited.specs.Asked.{asked, Brought, Passed, goes, comes};
 ghost use Rattle.edit_checks.specs.Checked.{changeChecked, editChecked};
-
-const LOG_SIZE: usize = 321;
-
-const PILE_SIZE: usize = 8;
-
-const TABLE_SIZE: usize = 581;
-
-const ROW_SIZE: usize = 5;
-
-const DEPTH_LIMIT: u64 = 60000;
 
 fn refused(n: u32) -> Checked
     ensures { λ r. ⌜ r ≡ record { refusal = refuse n; depth = 0 } ⌝ }

@@ -1,16 +1,13 @@
 // The frame of a lent log: its length, its count and its unused places. Checks 1 and 2.
+use rules::LOG_SIZE;
+use rules::ROW_LIMIT;
+use rules::ROW_SIZE;
 ghost use mathlib.Core.Path.{_≡_};
 ghost use lib.ListN.{drop};
 ghost use Rattle.rules.specs.Base as base;
 ghost use Rattle.rules.specs.Base.{allZero};
 ghost use Rattle.rules.specs.Checks.{countWrong};
 ghost use Rattle.frames.specs.Frame.{earlyChecks};
-
-const ROW_LIMIT: usize = 64;
-
-const ROW_SIZE: usize = 5;
-
-const LOG_SIZE: usize = 1 + ROW_LIMIT * ROW_SIZE;
 
 // Whether the bytes from `from` on are all zero: they are joined bit by bit, with no test in between.
 fn blank_from(s: &[u8], from: usize) -> bool

@@ -1,14 +1,12 @@
 // The slice table before and after an edit: a copy of the one that is lent, and how many leading slices of the new one are kept.
 // Each `requires` is a table's length, which check 1 saw to, and that the slices fit it.
+use rules::SLICE_SIZE;
+use rules::TABLE_SIZE;
 ghost use mathlib.Core.Path.{_≡_};
 ghost use Prim.Native.Nat.{_≤_};
 ghost use lib.ListN.{length};
 ghost use Rattle.rules.specs.Limits.{placeLimit, tableSize};
 ghost use Rattle.rules.specs.Edits.{kept};
-
-const SLICE_SIZE: usize = 7;
-
-const TABLE_SIZE: usize = 581;
 
 // The lent table's bytes.
 pub fn table_copy(table: &[u8]) -> [u8; TABLE_SIZE]

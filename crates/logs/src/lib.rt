@@ -4,8 +4,11 @@ use replies::refuse;
 use row_ranges::row_field;
 use rows::no_row;
 use rows::read_row;
+use rules::DEPTH_LIMIT;
 use rules::Log;
 use rules::LogRead;
+use rules::ROW_LIMIT;
+use rules::ROW_SIZE;
 use rules::Refusal;
 ghost use mathlib.Core.Path.{_≡_};
 ghost use Prim.Native.Nat.{_≤_};
@@ -13,12 +16,6 @@ ghost use Rattle.rules.specs.Limits.{rowLimit};
 ghost use Rattle.rules.specs.Reading.{noLog, readLog};
 ghost use Rattle.logs.specs.Rows.{rowsRead};
 ghost use Rattle.logs.specs.Checks.{deepChecked, rowsChecked, checkedLog};
-
-const ROW_LIMIT: usize = 64;
-
-const ROW_SIZE: usize = 5;
-
-const DEPTH_LIMIT: u64 = 60000;
 
 // Checks 1 to 4 of a log, and how deep its rows go.
 pub struct Checked {

@@ -1,5 +1,6 @@
 // What an accepted edit does to the log's bytes: the rows from row k on move by one place, and the count follows. Rows count from 1.
 // These come after the checks, whose results each `requires` names.
+use rules::ROW_SIZE;
 ghost use mathlib.Core.Path.{_≡_};
 ghost use Prim.Native.Nat.{_+_, _-_, _≤_, _<_};
 ghost use lib.ListN.{length};
@@ -7,8 +8,6 @@ ghost use Rattle.rules.specs.Limits.{rowLimit, logSize};
 ghost use Rattle.rules.specs.Packed.{countOf};
 ghost use Rattle.rules.specs.Edits.{withCount, replacedLog, insertedLog, removedLog};
 ghost use Rattle.edited.specs.Divided.{dividedLog};
-
-const ROW_SIZE: usize = 5;
 
 fn raise_count(log: &mut [u8])
     requires { ⌜ 1 ≤ length (now log) ⌝ }
@@ -26,7 +25,7 @@ fn lower_count(log: &mut [u8])
     log[0] -= 1;
 }
 
-pub fn replace_row(log: &mut [u8], k: usize, row: [u8; 5])
+pub fn replace_row(log: &mut [u8], k: usize, row: [u8; ROW_SIZE])
     requires { ⌜ length (now log) ≡ logSize ⌝ }
     requires { ⌜ (1 ≤ k) × (k ≤ rowLimit) ⌝ }
     ensures { λ _. ⌜ now (log .exit) ≡ replacedLog k row (now (log .entry)) ⌝ }
@@ -35,7 +34,7 @@ pub fn replace_row(log: &mut [u8], k: usize, row: [u8; 5])
     row_places::put_row(&mut log[place..], row);
 }
 
-pub fn insert_row(log: &mut [u8], k: usize, row: [u8; 5])
+pub fn insert_row(log: &mut [u8], k: usize, row: [u8; ROW_SIZE])
     requires { ⌜ length (now log) ≡ logSize ⌝ }
     requires { ⌜ (1 ≤ k) × (k ≤ rowLimit) ⌝ }
     requires { ⌜ countOf (now log) < rowLimit ⌝ }
@@ -58,7 +57,7 @@ pub fn remove_row(log: &mut [u8], k: usize)
 }
 
 // Row k gives way to its two parts.
-pub fn split_row(log: &mut [u8], k: usize, upper: [u8; 5], lower: [u8; 5])
+pub fn split_row(log: &mut [u8], k: usize, upper: [u8; ROW_SIZE], lower: [u8; ROW_SIZE])
     requires { ⌜ length (now log) ≡ logSize ⌝ }
     requires { ⌜ (1 ≤ k) × (k < rowLimit) ⌝ }
     requires { ⌜ countOf (now log) < rowLimit ⌝ }

@@ -1,5 +1,6 @@
 // What an edit names: one of four kinds, a row of the log and a split point in it. Check 13.
 // `stands` requires that the log has a first byte; check 1 comes before.
+use rules::ROW_SIZE;
 use rules::Row;
 ghost use mathlib.Core.Path.{_≡_};
 ghost use mathlib.Core.List.{[]};
@@ -8,8 +9,6 @@ ghost use lib.ListN.{length};
 ghost use Rattle.rules.specs.Packed.{countOf};
 ghost use Rattle.rules.specs.Edits as rule;
 ghost use Rattle.edited.specs.Asked.{asked};
-
-const ROW_SIZE: usize = 5;
 
 // Whether k names one of n rows.
 fn named(k: u32, n: u32) -> bool

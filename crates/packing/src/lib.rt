@@ -6,7 +6,10 @@ use replies::refuse;
 use row_ranges::row_field;
 use row_ranges::row_zero;
 use rows::row_bytes;
+use rules::LOG_SIZE;
 use rules::Log;
+use rules::ROW_LIMIT;
+use rules::ROW_SIZE;
 use rules::Refusal;
 ghost use mathlib.Core.Path.{_≡_};
 ghost use Prim.Native.Nat.{min};
@@ -17,12 +20,6 @@ ghost use Rattle.rules.specs.Limits.{rowLimit, logSize};
 ghost use Rattle.rules.specs.Checks.{firstWrong};
 ghost use Rattle.rules.specs.Packed.{logBytes};
 ghost use Rattle.rules.specs.Reading.{rowsZero, unusedFields, packLogCheck, packedLog};
-
-const ROW_LIMIT: usize = 64;
-
-const ROW_SIZE: usize = 5;
-
-const LOG_SIZE: usize = 1 + ROW_LIMIT * ROW_SIZE;
 
 // Whether the row places from `from` on are all zero.
 fn unused_from(l: Log, from: usize) -> bool

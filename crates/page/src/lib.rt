@@ -1,5 +1,7 @@
 // The sheet of a log and a pile record, laid out on a page.
 use rules::Answer;
+use rules::LOG_SIZE;
+use rules::TABLE_SIZE;
 ghost use mathlib.Core.Path.{_≡_};
 ghost use mathlib.Core.List.{List};
 ghost use Prim.Native.Nat.{_≤_, min};
@@ -9,10 +11,6 @@ ghost use Rattle.rules.specs.Sheet.{sheetOf, sheetText};
 ghost use Rattle.rules.specs.declared.Slice.{Slice};
 ghost use Rattle.page.specs.Places.{TableOf};
 ghost use Rattle.page.specs.Pages.{pageSize, pageOf, Laid};
-
-const LOG_SIZE: usize = 321;
-
-const TABLE_SIZE: usize = 581;
 
 const PAGE_SIZE: usize = 4096;
 

@@ -5,6 +5,7 @@ use bits::take_bits;
 use copies::copy_in;
 use pile_ranges::pile_refusal;
 use replies::refuse;
+use rules::PILE_SIZE;
 use rules::Pile;
 use rules::PileRead;
 use rules::Refusal;
@@ -13,8 +14,6 @@ use words::word_of;
 ghost use mathlib.Core.Path.{_≡_};
 ghost use Rattle.rules.specs.Packed.{pileOf, pileBytes};
 ghost use Rattle.rules.specs.Reading.{readPile, noPile, packPileCheck, packedPile};
-
-const PILE_SIZE: usize = 8;
 
 // The seven fields, one after the other.
 fn take_pile(s: &[u8]) -> Pile

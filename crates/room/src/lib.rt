@@ -1,13 +1,12 @@
 // Whether an edit brings a row, and whether the log has room for one more: check 14.
 // `full` requires that the log has a first byte; check 1 comes before.
+use rules::ROW_LIMIT;
 ghost use mathlib.Core.Path.{_≡_};
 ghost use Prim.Native.Nat.{_≤_};
 ghost use lib.ListN.{length};
 ghost use Rattle.rules.specs.Packed.{countOf};
 ghost use Rattle.rules.specs.Edits as rule;
 ghost use Rattle.edited.specs.Asked as asking;
-
-const ROW_LIMIT: u32 = 64;
 
 // Replace and insert.
 pub fn brings(kind: u32) -> bool
@@ -40,5 +39,5 @@ pub fn full(log: &[u8], kind: u32) -> bool
     if !grows(kind) {
         return false;
     }
-    ROW_LIMIT <= log[0] as u32
+    ROW_LIMIT <= log[0] as usize
 }

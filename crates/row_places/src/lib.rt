@@ -1,12 +1,11 @@
 // The row places of a lent part of a log, moved by five bytes: a place opened, closed, written or given to two rows.
 // The part begins where the first place begins. Each `requires` is that it has so many bytes, which the callers see to.
+use rules::ROW_SIZE;
 ghost use mathlib.Core.Path.{_≡_};
 ghost use Prim.Native.Nat.{_*_, _≤_};
 ghost use lib.ListN.{length};
 ghost use Rattle.rules.specs.Limits.{rowSize};
 ghost use Rattle.row_places.specs.Places.{opened, raised, closed, put, inserted, divided};
-
-const ROW_SIZE: usize = 5;
 
 // Opens the first place of t: the bytes move down by five, from the end up, and the last five go.
 fn open_place(t: &mut [u8])
@@ -33,7 +32,7 @@ fn raise_bytes(t: &mut [u8])
 }
 
 // Writes the row into the first place of t.
-pub fn put_row(t: &mut [u8], row: [u8; 5])
+pub fn put_row(t: &mut [u8], row: [u8; ROW_SIZE])
     requires { ⌜ rowSize ≤ length (now t) ⌝ }
     ensures { λ _. ⌜ now (t .exit) ≡ put row (now (t .entry)) ⌝ }
 {
@@ -55,7 +54,7 @@ pub fn close_place(t: &mut [u8])
 }
 
 // The row comes in before the first place of t.
-pub fn insert_first(t: &mut [u8], row: [u8; 5])
+pub fn insert_first(t: &mut [u8], row: [u8; ROW_SIZE])
     requires { ⌜ rowSize ≤ length (now t) ⌝ }
     ensures { λ _. ⌜ now (t .exit) ≡ inserted row (now (t .entry)) ⌝ }
 {
@@ -64,7 +63,7 @@ pub fn insert_first(t: &mut [u8], row: [u8; 5])
 }
 
 // The row in the first place of t gives way to its two parts.
-pub fn split_first(t: &mut [u8], upper: [u8; 5], lower: [u8; 5])
+pub fn split_first(t: &mut [u8], upper: [u8; ROW_SIZE], lower: [u8; ROW_SIZE])
     requires { ⌜ 2 * rowSize ≤ length (now t) ⌝ }
     ensures { λ _. ⌜ now (t .exit) ≡ divided upper lower (now (t .entry)) ⌝ }
 {

@@ -1,11 +1,12 @@
 // The ranges of a row's fields: check 3, and what an unused place holds.
 use replies::in_range;
+use rules::DEPTH_LIMIT;
 use rules::Row;
 ghost use mathlib.Core.Path.{_≡_};
 ghost use Rattle.rules.specs.Checks.{indexRight, wrongField};
 ghost use Rattle.rules.specs.Reading.{rowZero};
 
-const DEPTH_LIMIT: u16 = 60000;
+const THICKNESS_LIMIT: u16 = DEPTH_LIMIT as u16;
 
 fn index_right(kind: u8, index: u8) -> bool
     ensures { λ r. ⌜ r ≡ indexRight kind index ⌝ }
@@ -40,7 +41,7 @@ pub fn row_zero(r: Row) -> bool
 pub fn row_field(r: Row) -> u32
     ensures { λ f. ⌜ f ≡ wrongField r ⌝ }
 {
-    if !in_range(1, DEPTH_LIMIT, r.thickness) {
+    if !in_range(1, THICKNESS_LIMIT, r.thickness) {
         return 1;
     }
     if !in_range(1, 6, r.kind as u16) {

@@ -2,6 +2,7 @@
 use bits::Cursor;
 use bits::put_bits;
 use bits::take_bits;
+use rules::ROW_SIZE;
 use rules::Row;
 use words::bytes_of;
 use words::five_of;
@@ -68,7 +69,7 @@ pub fn row_inside(s: &[u8], i: usize) -> Row
 }
 
 // The five bytes of a row; a field of more bits than its place is carried into the field before.
-pub fn row_bytes(r: Row) -> [u8; 5]
+pub fn row_bytes(r: Row) -> [u8; ROW_SIZE]
     ensures { λ b. ⌜ b ≡ rowBytes r ⌝ }
 {
     let start = Cursor {

@@ -1,5 +1,16 @@
 // The things document 01 speaks of, as types: soil, row, log, pile, slice, refusal, answer, and the cells of a table.
 // Every other crate, and every definition in specs/, uses these.
+mod limits;
+
+pub use limits::DEPTH_LIMIT;
+pub use limits::LOG_SIZE;
+pub use limits::PILE_SIZE;
+pub use limits::PLACE_LIMIT;
+pub use limits::ROW_LIMIT;
+pub use limits::ROW_SIZE;
+pub use limits::SLICE_LIMIT;
+pub use limits::SLICE_SIZE;
+pub use limits::TABLE_SIZE;
 
 // Refusal number, row and field; all 0 where nothing is refused.
 #[repr(C)]
@@ -23,7 +34,7 @@ pub struct Row {
 #[repr(C)]
 pub struct Log {
     pub count: u8,
-    pub rows: [Row; 64],
+    pub rows: [Row; ROW_LIMIT],
 }
 
 // A pile record, its fields in order.

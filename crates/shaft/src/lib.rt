@@ -1,6 +1,5 @@
 // The shaft cut into slices: from the head down along the strata, each slice put into its place of the lent table.
 use cuts::cut_slice;
-use slice_table::PLACES;
 use slice_table::clear_table;
 use soils::joins;
 use soils::soil_of;
@@ -13,14 +12,13 @@ ghost use Rattle.rules.specs.Packed.{rowAt, rowsOf};
 ghost use Rattle.friction_table.specs.Printed.{Lent};
 ghost use Rattle.strata.specs.Good.{Good};
 ghost use Rattle.shaft.specs.Shafts.{cutOf, shaftOf, tableOf};
+use rules::PLACE_LIMIT;
 use rules::Pile;
+use rules::ROW_LIMIT;
+use rules::ROW_SIZE;
 use rules::Row;
 
-const ROW_LIMIT: usize = 64;
-
-const ROW_SIZE: usize = 5;
-
-const OVER: usize = PLACES + 1;
+const OVER: usize = PLACE_LIMIT + 1;
 
 // How many slices a shaft has, and the sum of friction × thickness × factor.
 pub struct Shaft {
@@ -72,7 +70,7 @@ fn cut_along(
                 continue;
             }
         }
-        if used == PLACES {
+        if used == PLACE_LIMIT {
             clear_table(table);
             return Shaft {
                 used: OVER,

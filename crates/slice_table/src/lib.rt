@@ -4,13 +4,9 @@ ghost use Prim.Native.Nat.{_<_};
 ghost use lib.ListN.{length, replicate};
 ghost use Rattle.rules.specs.Limits.{placeLimit, tableSize};
 ghost use Rattle.slice_table.specs.Table.{putAt};
+use rules::SLICE_SIZE;
 use rules::Slice;
-
-pub const PLACES: usize = 83;
-
-const SLICE_SIZE: usize = 7;
-
-pub const TABLE_SIZE: usize = PLACES * SLICE_SIZE;
+use rules::TABLE_SIZE;
 
 // Every byte becomes zero.
 pub fn clear_table(table: &mut [u8])

@@ -2,19 +2,16 @@
 use bits::Cursor;
 use bits::put_bits;
 use bits::take_bits;
+use rules::PLACE_LIMIT;
+use rules::SLICE_SIZE;
 use rules::Slice;
 use rules::SliceRead;
+use rules::TABLE_SIZE;
 use words::bytes_of;
 use words::word_of;
 ghost use mathlib.Core.Path.{_≡_};
 ghost use Rattle.rules.specs.Packed.{sliceAt, sliceBytes};
 ghost use Rattle.rules.specs.Reading.{readSlice, noSlice};
-
-const PLACE_LIMIT: usize = 83;
-
-const SLICE_SIZE: usize = 7;
-
-const TABLE_SIZE: usize = PLACE_LIMIT * SLICE_SIZE;
 
 // The slice that begins with the first byte.
 fn take_slice(s: &[u8]) -> Slice
@@ -70,7 +67,7 @@ pub fn read_slice(s: &[u8], place: u32) -> SliceRead
 }
 
 // The seven bytes of a slice; a field of more bits than its place is carried into the field before.
-pub fn slice_bytes(c: Slice) -> [u8; 7]
+pub fn slice_bytes(c: Slice) -> [u8; SLICE_SIZE]
     ensures { λ b. ⌜ b ≡ sliceBytes c ⌝ }
 {
     let start = Cursor { word: 0, at: 0 };

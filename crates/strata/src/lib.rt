@@ -5,11 +5,10 @@ ghost use Rattle.rules.specs.Checks.{depthOf};
 ghost use Rattle.rules.specs.Packed.{rowsOf};
 ghost use Rattle.strata.specs.Good.{Good};
 ghost use Rattle.strata.specs.Strata.{Holds, stratumAt};
+use rules::ROW_SIZE;
 use rules::Soil;
 use soils::same_soil;
 use soils::soil_of;
-
-const ROW_SIZE: usize = 5;
 
 // The soil at a millimetre, and the top of its stratum.
 pub struct Stratum {

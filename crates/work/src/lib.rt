@@ -4,7 +4,6 @@ use numbers::five_numbers;
 use numbers::pascals;
 use replies::refuse;
 use replies::refused;
-use slice_table::PLACES;
 use slice_table::clear_table;
 use tip_checks::tip_refusal;
 ghost use mathlib.Core.Path.{_≡_};
@@ -19,6 +18,7 @@ ghost use Rattle.rules.specs.Calculation.{slicesOfRows, freshAnswer, freshTable
 ghost use Rattle.strata.specs.Good.{Good};
 ghost use Rattle.work.specs.Work.{workedOut, heldTable, noWork};
 use rules::Answer;
+use rules::PLACE_LIMIT;
 use rules::Pile;
 use rules::Refusal;
 
@@ -58,7 +58,7 @@ fn work_pile(log: &[u8], pile: Pile, table: &mut [u8]) -> Worked
     }
     let cut = shaft::cut_shaft(log, pile, table);
     let used = cut.used;
-    if PLACES < used {
+    if PLACE_LIMIT < used {
         // The table is clear already.
         let answer = refused(refuse(15));
         return Worked {
