@@ -83,85 +83,76 @@ fn four() -> u32 {
     high * 65536 + two()
 }
 
-// A step: how much of the log, the pile record and the table is lent, the edit, how much of the new row is lent, and its bytes.
-struct Step {
-    log: u32,
-    pile: u32,
-    table: u32,
-    kind: u32,
-    k: u32,
-    x: u32,
-    lent: u8,
-    row: [u8; 8],
-}
-
 fn next_row() -> [u8; 8] {
     let mut row = [0u8; 8];
     io::read_full(0, &mut row[..5]);
     row
 }
 
-fn next_step() -> Step {
-    Step {
-        log: two(),
-        pile: two(),
-        table: two(),
-        kind: four(),
-        k: four(),
-        x: four(),
-        lent: byte(),
-        row: next_row(),
-    }
-}
-
-// The new row's bytes that are lent, from k on.
-fn put(t: &mut [u8], s: Step) {
-    let n = least(s.lent as usize, 5);
-    let bytes = s.row;
-    let mut i: usize = 0;
-    while i < n {
-        put_byte(t, s.k as usize + i, bytes[i]);
-        i += 1;
-    }
-}
-
-fn part(n: u32, s: &[u8]) -> usize
+// How much of s is lent.
+fn next_part(s: &[u8]) -> usize
     ensures { λ r. ⌜ Counts r (now (s .entry)) ⌝ }
 {
-    io::count(n as isize, s)
+    io::count(two() as isize, s)
 }
 
-fn ask(log: &mut [u8], pile: &[u8], table: &mut [u8], s: Step, row: &[u8]) {
-    let a = part(s.log, log);
-    let b = part(s.pile, pile);
-    let c = part(s.table, table);
+// An edit: how much of the log, the pile record and the table is lent, its kind, k and x, how much of the new row is lent, and its bytes.
+fn ask(log: &mut [u8], pile: &[u8], table: &mut [u8]) {
+    let a = next_part(log);
+    let b = next_part(pile);
+    let c = next_part(table);
+    let kind = four();
+    let k = four();
+    let x = four();
+    let n = byte();
+    let row = next_row();
+    let d = io::count(n as isize, &row);
     show(edits::edit(
         &mut log[..a],
         &pile[..b],
         &mut table[..c],
-        s.kind,
-        s.k,
-        s.x,
-        row,
+        kind,
+        k,
+        x,
+        &row[..d],
     ));
 }
 
-fn edit(log: &mut [u8], pile: &[u8], table: &mut [u8], s: Step) {
-    let row = s.row;
-    let n = part(s.lent as u32, &row);
-    ask(log, pile, table, s, &row[..n]);
+fn edit(log: &mut [u8], pile: &[u8], table: &mut [u8]) {
+    ask(log, pile, table);
     say(sum(log));
     say_last(sum(table));
 }
 
-// Kind 0 is an edit; 1, 2 and 3 put bytes into the log, the pile record and the table, at k.
+// Of the same bytes, k alone.
+fn next_place() -> u32 {
+    two();
+    four();
+    four();
+    let k = four();
+    four();
+    k
+}
+
+// The lent bytes of the row, from k on.
+fn put(t: &mut [u8]) {
+    let k = next_place();
+    let n = least(byte() as usize, 5);
+    let bytes = next_row();
+    let mut i: usize = 0;
+    while i < n {
+        put_byte(t, k as usize + i, bytes[i]);
+        i += 1;
+    }
+}
+
+// Kind 0 is an edit; 1, 2 and 3 put bytes into the log, the pile record and the table.
 fn run(log: &mut [u8], pile: &mut [u8], table: &mut [u8], kind: u8) {
-    let s = next_step();
     match kind {
-        0 => edit(log, pile, table, s),
-        1 => put(log, s),
-        2 => put(pile, s),
-        _ => put(table, s),
+        0 => edit(log, pile, table),
+        1 => put(log),
+        2 => put(pile),
+        _ => put(table),
     }
 }
 

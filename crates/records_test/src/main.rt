@@ -37,19 +37,16 @@ fn run_read(kind: u8, given: &[u8], long: u16) {
     }
 }
 
-fn run_pack(kind: u8, given: &[u8], buf: &mut [u8]) {
+fn run_pack(kind: u8, given: &[u8], long: u16) {
+    let mut buf = [165u8; 600];
+    let n = io::count(long as isize, &buf);
+    let s = &mut buf[..n];
     match kind {
-        6 => pack_log(given, buf),
-        7 => pack_pile(given, buf),
+        6 => pack_log(given, s),
+        7 => pack_pile(given, s),
         8 => pack_slice(given),
         _ => pack_row(given),
     }
-}
-
-fn pack(kind: u8, given: &[u8], long: u16) {
-    let mut buf = [165u8; 600];
-    let n = io::count(long as isize, &buf);
-    run_pack(kind, given, &mut buf[..n]);
 }
 
 // Puts the bytes that follow in front.
@@ -66,7 +63,7 @@ fn next_case(kind: u8) {
     if kind < 6 {
         run_read(kind, &given, long);
     } else {
-        pack(kind, &given, long);
+        run_pack(kind, &given, long);
     }
     end_line();
 }

@@ -7,16 +7,25 @@ use Rattle.edits_test.proofs.put.Statement.{statement}
 use Rattle.edits_test.proofs.put.Tie as tie
 
 abbrev Inv-loop : tie.InvT-loop
-Inv-loop t₀ s n bytes i₀ t i = (i ≤ n) × (length t ≡ length t₀)
+Inv-loop t₀ k n bytes i₀ t i = (i ≤ n) × (length t ≡ length t₀)
 
 abbrev μ-loop : tie.MeasureT-loop
-μ-loop t₀ s n bytes i₀ t i = n - i
+μ-loop t₀ k n bytes i₀ t i = n - i
+
+next-place-requires : tie.Need-next-place-requires Inv-loop μ-loop
+next-place-requires c κs = search needs
+
+byte-requires : tie.Need-byte-requires Inv-loop μ-loop
+byte-requires c κs = search needs
 
 cast-least : tie.Need-cast-least Inv-loop μ-loop
 cast-least c = search needs
 
 least-requires : tie.Need-least-requires Inv-loop μ-loop
 least-requires c κs = search needs
+
+next-row-requires : tie.Need-next-row-requires Inv-loop μ-loop
+next-row-requires c κs = search needs
 
 loop-holds : tie.Need-loop-holds Inv-loop μ-loop
 loop-holds c = search needs
@@ -54,8 +63,11 @@ put-spec =
     (tie.spec
     Inv-loop
     μ-loop
+    next-place-requires
+    byte-requires
     cast-least
     least-requires
+    next-row-requires
     loop-holds
     cast-put-byte
     add-put-byte
