@@ -1,4 +1,4 @@
-// The lent slice table: its size, cleared, and a slice put into a place of it.
+// The lent slice table: cleared, and a slice put into a place of it.
 ghost use mathlib.Core.Path.{_≡_};
 ghost use Prim.Native.Nat.{_<_};
 ghost use lib.ListN.{length, replicate};
