@@ -5,6 +5,8 @@
 use crate::cases::{self, log_of, Known};
 use crate::*;
 
+mod edits;
+
 fn row(thickness: u16, kind: u8, index: u8, saturation: u8) -> Row {
     Row {
         thickness,
@@ -26,10 +28,42 @@ fn circle(head: u16, tip: u16) -> Pile {
     }
 }
 
+/// With its tip at 10,000.
+fn rectangle(a: u16, b: u16, head: u16) -> Pile {
+    Pile {
+        section: 2,
+        a,
+        b,
+        ..circle(head, 10_000)
+    }
+}
+
+/// One row as deep as a log may be.
+const DEEP_CLAY: [Row; 1] = [Row {
+    thickness: 60_000,
+    kind: 6,
+    index: 130,
+    saturation: 95,
+    zero: 0,
+}];
+
 fn run(rows: &[Row], pile: Pile) -> (Answer, Vec<u8>) {
     let mut table = vec![0x5A; TABLE];
     let answer = calculate(&log_of(rows), &pile_bytes(&pile), &mut table);
     (answer, table)
+}
+
+/// Line, tip, shaft, capacity, uplift.
+fn numbers(answer: &Answer) -> [u64; 5] {
+    let Answer {
+        line,
+        tip,
+        shaft,
+        capacity,
+        uplift,
+        ..
+    } = *answer;
+    [line, tip, shaft, capacity, uplift]
 }
 
 /// Refusal, row and field; a refused calculation gives no numbers and leaves or empties the table.
@@ -60,13 +94,7 @@ fn known_cases() {
     for case in cases::all() {
         let mut table = vec![0xFF; TABLE];
         let answer = calculate(&case.log, &case.pile, &mut table);
-        let numbers = [
-            answer.line,
-            answer.tip,
-            answer.shaft,
-            answer.capacity,
-            answer.uplift,
-        ];
+        let numbers = numbers(&answer);
         match case.known {
             Known::Numbers(known) => {
                 assert_eq!(answer.refusal, 0, "case {}", case.name);
@@ -143,64 +171,34 @@ fn full() -> ([u8; LOG], Pile) {
 
 #[test]
 fn log_checks() {
-    let good = row(20_000, 6, 130, 95);
-    let pile = circle(1_000, 10_000);
-    assert_eq!(refused(&[good], pile), (0, 0, 0));
-    assert_eq!(
-        refused(
-            &[
-                good,
-                Row {
-                    thickness: 0,
-                    ..good
-                }
-            ],
-            pile
-        ),
-        (3, 2, 1)
-    );
-    assert_eq!(
-        refused(
-            &[
-                good,
-                Row {
-                    thickness: 60_001,
-                    ..good
-                }
-            ],
-            pile
-        ),
-        (3, 2, 1)
-    );
-    assert_eq!(refused(&[Row { kind: 0, ..good }], pile), (3, 1, 2));
-    assert_eq!(
-        refused(
-            &[Row {
-                kind: 7,
-                index: 255,
-                ..good
-            }],
-            pile
-        ),
-        (3, 1, 2)
-    );
-    assert_eq!(
-        refused(&[good, row(1, 1, 101, 0), row(0, 1, 1, 0)], pile),
-        (3, 2, 3)
-    );
-    assert_eq!(refused(&[row(1, 3, 99, 127)], pile), (3, 1, 3));
-    assert_eq!(refused(&[row(1, 4, 201, 127)], pile), (3, 1, 3));
-    assert_eq!(refused(&[row(1, 5, 200, 101)], pile), (3, 1, 4));
-    assert_eq!(refused(&[Row { zero: 1, ..good }], pile), (3, 1, 5));
-    assert_eq!(
-        refused(&[good, good, row(20_001, 6, 130, 95)], pile),
-        (4, 0, 0)
-    );
-    assert_eq!(refused(&[good, good, good], pile), (0, 0, 0));
+    log_fields();
+    log_counts_and_lengths();
+}
 
-    let packed = pile_bytes(&pile);
+fn log_fields() {
+    let good = row(20_000, 6, 130, 95);
+    for (rows, reply) in [
+        (vec![good], (0, 0, 0)),
+        (vec![good, row(0, 6, 130, 95)], (3, 2, 1)),
+        (vec![good, row(60_001, 6, 130, 95)], (3, 2, 1)),
+        (vec![row(20_000, 0, 130, 95)], (3, 1, 2)),
+        (vec![row(20_000, 7, 255, 95)], (3, 1, 2)),
+        (vec![good, row(1, 1, 101, 0), row(0, 1, 1, 0)], (3, 2, 3)),
+        (vec![row(1, 3, 99, 127)], (3, 1, 3)),
+        (vec![row(1, 4, 201, 127)], (3, 1, 3)),
+        (vec![row(1, 5, 200, 101)], (3, 1, 4)),
+        (vec![Row { zero: 1, ..good }], (3, 1, 5)),
+        (vec![good, good, row(20_001, 6, 130, 95)], (4, 0, 0)),
+        (vec![good, good, good], (0, 0, 0)),
+    ] {
+        assert_eq!(refused(&rows, circle(1_000, 10_000)), reply, "{rows:?}");
+    }
+}
+
+fn log_counts_and_lengths() {
+    let packed = pile_bytes(&circle(1_000, 10_000));
     let mut table = vec![7; TABLE];
-    let mut log = log_of(&[Row { kind: 0, ..good }]);
+    let mut log = log_of(&[row(20_000, 0, 130, 95)]);
     log[320] = 1;
     assert_eq!(calculate(&log, &packed, &mut table).refusal, 2);
     for count in [0, 65, 255] {
@@ -215,104 +213,58 @@ fn log_checks() {
 
 #[test]
 fn pile_checks() {
-    let ground = [row(60_000, 6, 130, 95)];
-    let good = circle(1_000, 10_000);
-    let square = Pile {
-        section: 2,
-        a: 300,
-        b: 4_000,
-        ..good
-    };
-    assert_eq!(refused(&ground, good), (0, 0, 0));
-    assert_eq!(refused(&ground, square), (0, 0, 0));
-    assert_eq!(
-        refused(
-            &ground,
-            Pile {
-                section: 0,
-                a: 0,
-                ..good
-            }
-        ),
-        (5, 0, 1)
-    );
-    assert_eq!(refused(&ground, Pile { section: 3, ..good }), (5, 0, 1));
-    assert_eq!(
-        refused(
-            &ground,
-            Pile {
-                a: 149,
-                b: 1,
-                ..good
-            }
-        ),
-        (5, 0, 2)
-    );
-    assert_eq!(refused(&ground, Pile { a: 2_001, ..good }), (5, 0, 2));
-    assert_eq!(
-        refused(
-            &ground,
-            Pile {
-                b: 1,
-                zero: 1,
-                ..good
-            }
-        ),
-        (5, 0, 3)
-    );
-    assert_eq!(refused(&ground, Pile { a: 299, ..square }), (5, 0, 2));
-    assert_eq!(refused(&ground, Pile { a: 4_001, ..square }), (5, 0, 2));
-    assert_eq!(refused(&ground, Pile { b: 299, ..square }), (5, 0, 3));
-    assert_eq!(refused(&ground, Pile { b: 4_001, ..square }), (5, 0, 3));
-    assert_eq!(
-        refused(
-            &ground,
-            Pile {
-                zero: 8,
-                method: 0,
-                ..good
-            }
-        ),
-        (5, 0, 4)
-    );
-    assert_eq!(
-        refused(
-            &ground,
-            Pile {
-                method: 0,
-                tip: 0,
-                ..good
-            }
-        ),
-        (6, 0, 0)
-    );
-    assert_eq!(refused(&ground, circle(3_000, 3_000)), (7, 0, 0));
-    assert_eq!(refused(&ground, circle(0, 2_999)), (7, 0, 0));
-    assert_eq!(refused(&ground, circle(0, 3_000)), (0, 0, 0));
-    assert_eq!(refused(&ground, circle(0, 40_000)), (0, 0, 0));
-    assert_eq!(refused(&ground, circle(0, 40_001)), (7, 0, 0));
-    assert_eq!(refused(&ground, circle(8_000, 10_000)), (0, 0, 0));
-    assert_eq!(refused(&ground, circle(8_001, 10_000)), (10, 0, 0));
-    assert_eq!(
-        refused(
-            &ground,
-            Pile {
-                head: 6_000,
-                ..square
-            }
-        ),
-        (0, 0, 0)
-    );
-    assert_eq!(
-        refused(
-            &ground,
-            Pile {
-                head: 6_001,
-                ..square
-            }
-        ),
-        (10, 0, 0)
-    );
+    circle_fields();
+    rectangle_fields();
+    depths_and_seats();
+}
+
+fn circle_fields() {
+    // Section, a, b, method and zero bits.
+    for (fields, reply) in [
+        ((1, 600, 0, 1, 0), (0, 0, 0)),
+        ((0, 0, 0, 1, 0), (5, 0, 1)),
+        ((3, 600, 0, 1, 0), (5, 0, 1)),
+        ((1, 149, 1, 1, 0), (5, 0, 2)),
+        ((1, 2_001, 0, 1, 0), (5, 0, 2)),
+        ((1, 600, 1, 1, 1), (5, 0, 3)),
+        ((1, 600, 0, 0, 8), (5, 0, 4)),
+    ] {
+        let mut pile = circle(1_000, 10_000);
+        (pile.section, pile.a, pile.b, pile.method, pile.zero) = fields;
+        assert_eq!(refused(&DEEP_CLAY, pile), reply, "{pile:?}");
+    }
+    let mut pile = circle(1_000, 0);
+    pile.method = 0;
+    assert_eq!(refused(&DEEP_CLAY, pile), (6, 0, 0));
+}
+
+fn rectangle_fields() {
+    for (a, b, reply) in [
+        (300, 4_000, (0, 0, 0)),
+        (299, 4_000, (5, 0, 2)),
+        (4_001, 4_000, (5, 0, 2)),
+        (300, 299, (5, 0, 3)),
+        (300, 4_001, (5, 0, 3)),
+    ] {
+        let pile = rectangle(a, b, 1_000);
+        assert_eq!(refused(&DEEP_CLAY, pile), reply, "{pile:?}");
+    }
+}
+
+fn depths_and_seats() {
+    for (pile, reply) in [
+        (circle(3_000, 3_000), (7, 0, 0)),
+        (circle(0, 2_999), (7, 0, 0)),
+        (circle(0, 3_000), (0, 0, 0)),
+        (circle(0, 40_000), (0, 0, 0)),
+        (circle(0, 40_001), (7, 0, 0)),
+        (circle(8_000, 10_000), (0, 0, 0)),
+        (circle(8_001, 10_000), (10, 0, 0)),
+        (rectangle(300, 4_000, 6_000), (0, 0, 0)),
+        (rectangle(300, 4_000, 6_001), (10, 0, 0)),
+    ] {
+        assert_eq!(refused(&DEEP_CLAY, pile), reply, "{pile:?}");
+    }
 }
 
 #[test]
@@ -383,6 +335,11 @@ fn uplift_by_length() {
 
 #[test]
 fn reading_and_packing() {
+    logs_read_and_packed();
+    piles_read_and_packed();
+}
+
+fn logs_read_and_packed() {
     let rows = [row(60_000, 6, 130, 95), row(60_000, 1, 100, 0)];
     let packed = log_of(&rows);
     let fields = read_log(&packed);
@@ -408,7 +365,9 @@ fn reading_and_packing() {
             ..Log::default()
         }
     );
+}
 
+fn piles_read_and_packed() {
     let pile = Pile {
         head: 65_535,
         tip: 0,
@@ -432,124 +391,4 @@ fn reading_and_packing() {
             ..Pile::default()
         }
     );
-}
-
-struct Desk {
-    log: Vec<u8>,
-    pile: [u8; PILE],
-    table: Vec<u8>,
-}
-
-impl Desk {
-    fn new(rows: &[Row], pile: Pile) -> Desk {
-        let mut desk = Desk {
-            log: log_of(rows).to_vec(),
-            pile: pile_bytes(&pile),
-            table: vec![0; TABLE],
-        };
-        calculate(&desk.log, &desk.pile, &mut desk.table);
-        desk
-    }
-
-    fn edit(&mut self, kind: u32, k: u32, x: u32, row: &[u8]) -> Answer {
-        edit(&mut self.log, &self.pile, &mut self.table, kind, k, x, row)
-    }
-
-    /// Refused, and nothing is touched.
-    fn refuses(&mut self, kind: u32, k: u32, x: u32, row: &[u8]) -> (u32, u32, u32) {
-        let before = (self.log.clone(), self.table.clone());
-        let answer = self.edit(kind, k, x, row);
-        assert_eq!(before, (self.log.clone(), self.table.clone()));
-        (answer.refusal, answer.row, answer.field)
-    }
-}
-
-#[test]
-fn edits_change_log_and_table() {
-    let clay = row(10_000, 6, 130, 95);
-    let mut desk = Desk::new(&[clay, clay], circle(1_000, 10_000));
-    let known = [212_100, 268_605, 399_798, 668_403, 319_838];
-
-    // A split moves no millimetre: all five slices are kept.
-    let answer = desk.edit(4, 1, 4_000, &[]);
-    assert_eq!((answer.refusal, answer.kept), (0, 5));
-    assert_eq!(
-        [
-            answer.line,
-            answer.tip,
-            answer.shaft,
-            answer.capacity,
-            answer.uplift
-        ],
-        known
-    );
-    assert_eq!(
-        desk.log[..],
-        log_of(&[row(4_000, 6, 130, 95), row(6_000, 6, 130, 95), clay])
-    );
-
-    // Fine sand from above: case G.
-    let answer = desk.edit(1, 1, 9, &row_bytes(row(4_000, 2, 100, 95)));
-    assert_eq!((answer.refusal, answer.kept, answer.line), (0, 0, 221_150));
-    desk.table[14] ^= 1;
-    let answer = desk.edit(2, 4, 9, &row_bytes(row(1, 5, 0, 0)));
-    assert_eq!((answer.refusal, answer.kept, answer.line), (0, 2, 221_150));
-    let answer = desk.edit(3, 4, 9, &[1, 2]);
-    assert_eq!((answer.refusal, answer.kept, answer.line), (0, 5, 221_150));
-    assert_eq!(
-        desk.log[..],
-        log_of(&[row(4_000, 2, 100, 95), row(6_000, 6, 130, 95), clay])
-    );
-
-    // Too short a log is the held answer, and the table is empty.
-    let answer = desk.edit(3, 3, 0, &[]);
-    assert_eq!((answer.refusal, answer.kept, answer.line), (8, 0, 0));
-    assert!(desk.table.iter().all(|byte| *byte == 0));
-    assert_eq!(
-        desk.log[..],
-        log_of(&[row(4_000, 2, 100, 95), row(6_000, 6, 130, 95)])
-    );
-}
-
-#[test]
-fn edits_refused() {
-    let clay = row(10_000, 6, 130, 95);
-    let good = row_bytes(clay);
-    let bad = row_bytes(Row { kind: 7, ..clay });
-    let mut desk = Desk::new(&[clay, clay], circle(1_000, 10_000));
-    assert_eq!(desk.refuses(1, 9, 0, &good[1..]), (1, 0, 0));
-    assert_eq!(desk.refuses(2, 9, 0, &[]), (1, 0, 0));
-    for kind in [0, 5, 257, u32::MAX] {
-        assert_eq!(desk.refuses(kind, 1, 1, &[]), (13, 0, 0));
-    }
-    for k in [0, 3, 257, u32::MAX] {
-        assert_eq!(desk.refuses(1, k, 1, &bad), (13, 0, 0));
-        assert_eq!(desk.refuses(3, k, 1, &bad), (13, 0, 0));
-        assert_eq!(desk.refuses(4, k, 1, &bad), (13, 0, 0));
-    }
-    assert_eq!(desk.refuses(2, 4, 1, &bad), (13, 0, 0));
-    assert_eq!(desk.refuses(2, 3, 1, &bad), (3, 3, 2));
-    assert_eq!(desk.refuses(1, 2, 1, &bad), (3, 2, 2));
-    for x in [0, 10_000, 65_537, u32::MAX] {
-        assert_eq!(desk.refuses(4, 1, x, &[]), (13, 0, 0));
-    }
-    let long = row_bytes(row(50_001, 6, 130, 95));
-    assert_eq!(desk.refuses(1, 1, 0, &long), (4, 0, 0));
-    assert_eq!(desk.refuses(2, 1, 0, &long), (4, 0, 0));
-    desk.log[320] = 1;
-    assert_eq!(desk.refuses(9, 1, 0, &long), (2, 0, 0));
-    assert_eq!(desk.refuses(1, 1, 0, &long[1..]), (1, 0, 0));
-
-    let mut single = Desk::new(&[clay], circle(1_000, 5_000));
-    assert_eq!(single.refuses(3, 1, 0, &[]), (13, 0, 0));
-
-    let mut full = Desk::new(&[row(500, 6, 130, 95); 64], circle(1_000, 10_000));
-    assert_eq!(full.refuses(2, 65, 0, &bad), (14, 0, 0));
-    assert_eq!(full.refuses(2, 66, 0, &bad), (13, 0, 0));
-    assert_eq!(full.refuses(4, 1, 1, &bad), (14, 0, 0));
-    assert_eq!(full.refuses(4, 1, 500, &bad), (13, 0, 0));
-    assert_eq!(full.refuses(1, 64, 0, &bad), (3, 64, 2));
-    full.pile = [0; PILE];
-    assert_eq!(full.edit(3, 64, 0, &[]).refusal, 5);
-    assert_eq!(full.log[0], 63);
 }
