@@ -79,135 +79,142 @@ fn pile(tip: u16) -> Pile {
     }
 }
 
-pub fn all() -> Vec<Case> {
-    const A: [u64; 5] = [212_100, 268_605, 399_798, 668_403, 319_838];
-    let plain = [clay(20_000, 30, 95)];
-    let mut list = Vec::new();
-    let mut add = |name, rows: &[Row], pile: Pile, known, resistance| {
-        list.push(Case {
-            name,
-            log: log_of(rows),
-            pile: pile_bytes(&pile),
-            known,
-            resistance,
-        });
-    };
-    let numbers = Known::Numbers;
-    let refusal = Known::Refusal;
+const NUMBERS_A: [u64; 5] = [212_100, 268_605, 399_798, 668_403, 319_838];
 
-    add("A", &plain, pile(10_000), numbers(A), None);
-    add(
-        "B",
-        &[clay(500, 30, 95); 40],
-        pile(10_000),
-        numbers(A),
-        None,
-    );
-    add(
-        "C",
-        &[clay(20_000, 35, 95)],
-        pile(10_000),
-        numbers([183_375, 247_400, 345_653, 593_053, 276_522]),
-        None,
-    );
-    add(
-        "D",
-        &[clay(20_000, 30, 80)],
-        pile(10_000),
-        numbers([A[0], A[1], A[2], 534_722, A[4]]),
-        None,
-    );
-    add(
-        "E",
-        &plain,
-        Pile {
-            section: 2,
-            a: 800,
-            b: 400,
-            ..pile(10_000)
-        },
-        numbers([212_100, 304_000, 509_040, 813_040, 407_232]),
-        None,
-    );
-    add(
-        "F",
-        &plain,
-        Pile {
-            method: 3,
-            ..pile(10_000)
-        },
-        numbers([247_450, 268_605, 466_431, 735_036, 373_144]),
-        None,
-    );
-    add(
-        "G",
-        &[fine_sand(4_000), clay(16_000, 30, 95)],
-        pile(10_000),
-        numbers([221_150, 268_605, 416_857, 685_462, 333_485]),
-        None,
-    );
-    add(
-        "H, 15,000",
-        &[clay(15_000, 30, 95)],
-        pile(10_000),
-        numbers(A),
-        None,
-    );
-    add(
-        "H, 14,999",
-        &[clay(14_999, 30, 95)],
-        pile(10_000),
-        refusal(8),
-        None,
-    );
-    add(
-        "I, 20,000",
-        &[clay(30_000, 45, 95)],
-        pile(20_000),
-        numbers([337_350, 381_703, 635_889, 1_017_592, 508_711]),
-        Some(1_350),
-    );
-    add(
-        "I, 20,001",
-        &[clay(30_000, 45, 95)],
-        pile(20_001),
-        refusal(12),
-        None,
-    );
-    add(
-        "J",
-        &[clay(30_000, 40, 95)],
-        pile(25_000),
-        numbers([508_560, 487_731, 958_612, 1_446_343, 766_889]),
-        Some(1_725),
-    );
-    add(
-        "K, 8,000",
-        &[fine_sand(8_000), clay(12_000, 30, 95)],
-        pile(10_000),
-        numbers([238_450, 268_605, 449_467, 718_072, 359_573]),
-        None,
-    );
-    add(
-        "K, 8,001",
-        &[fine_sand(8_001), clay(11_999, 30, 95)],
-        pile(10_000),
-        refusal(10),
-        None,
-    );
-    add(
-        "L, 0.60",
-        &[clay(20_000, 60, 95)],
-        pile(10_000),
-        numbers([89_400, 169_645, 168_514, 338_159, 134_811]),
-        Some(600),
-    );
-    add(
-        "L, 0.61",
-        &[clay(20_000, 61, 95)],
-        pile(10_000),
-        refusal(11),
-        None,
-    );
-    list
+fn case(name: &'static str, rows: &[Row], pile: Pile, known: Known) -> Case {
+    Case {
+        name,
+        log: log_of(rows),
+        pile: pile_bytes(&pile),
+        known,
+        resistance: None,
+    }
+}
+
+fn accepted(name: &'static str, rows: &[Row], pile: Pile, numbers: [u64; 5]) -> Case {
+    case(name, rows, pile, Known::Numbers(numbers))
+}
+
+fn refused(name: &'static str, rows: &[Row], tip: u16, refusal: u32) -> Case {
+    case(name, rows, pile(tip), Known::Refusal(refusal))
+}
+
+impl Case {
+    /// With its tip resistance in kPa.
+    fn resists(self, kilopascals: u64) -> Case {
+        Case {
+            resistance: Some(kilopascals),
+            ..self
+        }
+    }
+}
+
+pub fn all() -> Vec<Case> {
+    [a_to_d(), e_to_g(), h_to_j(), k_and_l()].concat()
+}
+
+/// Clay alone: in one row and in many, softer, drier.
+fn a_to_d() -> Vec<Case> {
+    let pile = pile(10_000);
+    let [line, tip, shaft, _, uplift] = NUMBERS_A;
+    vec![
+        accepted("A", &[clay(20_000, 30, 95)], pile, NUMBERS_A),
+        accepted("B", &[clay(500, 30, 95); 40], pile, NUMBERS_A),
+        accepted(
+            "C",
+            &[clay(20_000, 35, 95)],
+            pile,
+            [183_375, 247_400, 345_653, 593_053, 276_522],
+        ),
+        accepted(
+            "D",
+            &[clay(20_000, 30, 80)],
+            pile,
+            [line, tip, shaft, 534_722, uplift],
+        ),
+    ]
+}
+
+/// A rectangle, another method, sand on top.
+fn e_to_g() -> Vec<Case> {
+    let plain = [clay(20_000, 30, 95)];
+    let mut rectangle = pile(10_000);
+    (rectangle.section, rectangle.a, rectangle.b) = (2, 800, 400);
+    let mut vibrated = pile(10_000);
+    vibrated.method = 3;
+    vec![
+        accepted(
+            "E",
+            &plain,
+            rectangle,
+            [212_100, 304_000, 509_040, 813_040, 407_232],
+        ),
+        accepted(
+            "F",
+            &plain,
+            vibrated,
+            [247_450, 268_605, 466_431, 735_036, 373_144],
+        ),
+        accepted(
+            "G",
+            &[fine_sand(4_000), clay(16_000, 30, 95)],
+            pile(10_000),
+            [221_150, 268_605, 416_857, 685_462, 333_485],
+        ),
+    ]
+}
+
+/// The log's end, a dash of the tip table, a tip between two of its depths.
+fn h_to_j() -> Vec<Case> {
+    let soft = [clay(30_000, 45, 95)];
+    vec![
+        accepted(
+            "H, 15,000",
+            &[clay(15_000, 30, 95)],
+            pile(10_000),
+            NUMBERS_A,
+        ),
+        refused("H, 14,999", &[clay(14_999, 30, 95)], 10_000, 8),
+        accepted(
+            "I, 20,000",
+            &soft,
+            pile(20_000),
+            [337_350, 381_703, 635_889, 1_017_592, 508_711],
+        )
+        .resists(1_350),
+        refused("I, 20,001", &soft, 20_001, 12),
+        accepted(
+            "J",
+            &[clay(30_000, 40, 95)],
+            pile(25_000),
+            [508_560, 487_731, 958_612, 1_446_343, 766_889],
+        )
+        .resists(1_725),
+    ]
+}
+
+/// The shortest seat, the softest tip.
+fn k_and_l() -> Vec<Case> {
+    vec![
+        accepted(
+            "K, 8,000",
+            &[fine_sand(8_000), clay(12_000, 30, 95)],
+            pile(10_000),
+            [238_450, 268_605, 449_467, 718_072, 359_573],
+        ),
+        refused(
+            "K, 8,001",
+            &[fine_sand(8_001), clay(11_999, 30, 95)],
+            10_000,
+            10,
+        ),
+        accepted(
+            "L, 0.60",
+            &[clay(20_000, 60, 95)],
+            pile(10_000),
+            [89_400, 169_645, 168_514, 338_159, 134_811],
+        )
+        .resists(600),
+        refused("L, 0.61", &[clay(20_000, 61, 95)], 10_000, 11),
+    ]
 }
