@@ -3,7 +3,7 @@
 #![forbid(unsafe_code)]
 
 use crate::fraction::Fraction;
-use crate::ground::{millimetres, pieces, strata, Piece, Soil};
+use crate::ground::{millimetres, pieces, strata, Piece, Soil, Stratum};
 use crate::records::{check_pile, depth, open_log, pile_fields, slice_bytes};
 use crate::{tables, Answer, Pile, Refusal, Row, Slice, PILE, SLICE, SLICES, TABLE};
 
@@ -60,24 +60,41 @@ pub(crate) fn work_out(rows: &[Row], pile: &[u8]) -> (Answer, Vec<u8>) {
 /// Checks 5 to 12 and 15, then the numbers.
 fn numbers(rows: &[Row], pile: &Pile) -> Result<(Answer, Vec<Slice>), Refusal> {
     check_pile(pile)?;
-
-    let head = usize::from(pile.head);
-    let tip = usize::from(pile.tip);
-    if head >= tip || !(3_000..=40_000).contains(&tip) {
-        return Err(Refusal::plain(7));
-    }
-
-    let ground = millimetres(rows);
-    if ground.len() < tip + 5_000 {
-        return Err(Refusal::plain(8));
-    }
-
-    let below = ground[tip];
+    let ground = ground(rows, pile)?;
+    let below = ground[usize::from(pile.tip)];
     if below.is_sand() {
         return Err(Refusal::plain(9));
     }
-
     let strata = strata(&ground);
+    check_seat(&strata, pile)?;
+    let kilopascals = tip_resistance(below, pile)?;
+    let slices = slices(&strata, pile)?;
+
+    let resistance = (kilopascals * Fraction::whole(1_000)).floor();
+    let line = slices
+        .iter()
+        .map(share)
+        .fold(Fraction::ZERO, |sum, part| sum + part)
+        .floor();
+    Ok((answer(resistance, line, below, pile), slices))
+}
+
+/// Checks 7 and 8: head and tip, and a log that goes far enough below the tip.
+fn ground(rows: &[Row], pile: &Pile) -> Result<Vec<Soil>, Refusal> {
+    if pile.head >= pile.tip || !(3_000..=40_000).contains(&pile.tip) {
+        return Err(Refusal::plain(7));
+    }
+    let ground = millimetres(rows);
+    if ground.len() < usize::from(pile.tip) + 5_000 {
+        return Err(Refusal::plain(8));
+    }
+    Ok(ground)
+}
+
+/// Check 10: the tip stands deep enough in its stratum.
+fn check_seat(strata: &[Stratum], pile: &Pile) -> Result<(), Refusal> {
+    let head = usize::from(pile.head);
+    let tip = usize::from(pile.tip);
     let seat_top = strata
         .iter()
         .find(|stratum| stratum.top <= tip && tip < stratum.bottom)
@@ -88,16 +105,24 @@ fn numbers(rows: &[Row], pile: &Pile) -> Result<(Answer, Vec<Slice>), Refusal> {
     if seat < 2_000 || seat < side {
         return Err(Refusal::plain(10));
     }
+    Ok(())
+}
 
+/// Checks 11 and 12, then the tip resistance in kPa.
+fn tip_resistance(below: Soil, pile: &Pile) -> Result<Fraction, Refusal> {
     if below.index() > Fraction::new(60, 100) {
         return Err(Refusal::plain(11));
     }
+    tables::tip()
+        .at(metres(usize::from(pile.tip)), below.index())
+        .map_err(|tables::Dash| Refusal::plain(12))
+}
 
-    let kilopascals = tables::tip()
-        .at(metres(tip), below.index())
-        .map_err(|tables::Dash| Refusal::plain(12))?;
-
-    let pieces = pieces(&strata, head, tip);
+/// Check 15, then the slices of the shaft.
+fn slices(strata: &[Stratum], pile: &Pile) -> Result<Vec<Slice>, Refusal> {
+    let head = usize::from(pile.head);
+    let tip = usize::from(pile.tip);
+    let pieces = pieces(strata, head, tip);
     if pieces.len() > SLICES {
         return Err(Refusal::plain(15));
     }
@@ -105,42 +130,37 @@ fn numbers(rows: &[Row], pile: &Pile) -> Result<(Answer, Vec<Slice>), Refusal> {
         .iter()
         .map(|piece| slice(piece, pile.method))
         .collect();
-    assert_eq!(
-        slices
-            .iter()
-            .map(|slice| usize::from(slice.thickness))
-            .sum::<usize>(),
-        tip - head
-    );
-
-    let resistance = (kilopascals * Fraction::whole(1_000)).floor();
-    let line = slices
+    let length: usize = slices
         .iter()
-        .map(share)
-        .fold(Fraction::ZERO, |sum, part| sum + part)
-        .floor();
+        .map(|slice| usize::from(slice.thickness))
+        .sum();
+    assert_eq!(length, tip - head);
+    Ok(slices)
+}
+
+/// The five numbers from tip resistance in Pa and line, with the soil below the tip.
+fn answer(resistance: i128, line: i128, below: Soil, pile: &Pile) -> Answer {
     let (area, perimeter) = section(pile);
-    let tip_force = (Fraction::whole(resistance) * area).floor();
+    let tip = (Fraction::whole(resistance) * area).floor();
     let shaft = (Fraction::whole(line) * perimeter).floor();
     let soaked = if below.saturation() < 90 {
         Fraction::new(8, 10)
     } else {
         Fraction::ONE
     };
-    let pull = if tip - head < 4_000 {
+    let pull = if pile.tip - pile.head < 4_000 {
         Fraction::new(6, 10)
     } else {
         Fraction::new(8, 10)
     };
-    let answer = Answer {
+    Answer {
         line: line as u64,
-        tip: tip_force as u64,
+        tip: tip as u64,
         shaft: shaft as u64,
-        capacity: (Fraction::whole(tip_force + shaft) * soaked).floor() as u64,
+        capacity: (Fraction::whole(tip + shaft) * soaked).floor() as u64,
         uplift: (Fraction::whole(shaft) * pull).floor() as u64,
         ..Answer::default()
-    };
-    Ok((answer, slices))
+    }
 }
 
 fn metres(millimetres: usize) -> Fraction {
