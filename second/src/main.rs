@@ -23,36 +23,60 @@ const USAGE: &str = "usage: compare [--seed N] [--quick] [--only edits|others] [
   --null-row  also edits that hand over a null pointer where no row is used
   --trace     prints every call to standard error before it is made";
 
-fn main() -> ExitCode {
-    let mut seed = 20_250_101;
-    let mut quick = false;
-    let mut edits = true;
-    let mut others = true;
-    let mut null_row = false;
-    let mut trace = false;
-    let mut words = std::env::args().skip(1);
-    while let Some(word) = words.next() {
-        match word.as_str() {
-            "--seed" => match words.next().and_then(|number| number.parse().ok()) {
-                Some(number) => seed = number,
-                None => return wrong_use(),
-            },
-            "--quick" => quick = true,
-            "--only" => match words.next().as_deref() {
-                Some("edits") => others = false,
-                Some("others") => edits = false,
-                _ => return wrong_use(),
-            },
-            "--null-row" => null_row = true,
-            "--trace" => trace = true,
-            _ => return wrong_use(),
-        }
-    }
-    let part = if quick { 10 } else { 1 };
-    println!("seed {seed}{}", if quick { ", quick" } else { "" });
+/// What the words of the command line ask for.
+struct Asked {
+    seed: u64,
+    quick: bool,
+    edits: bool,
+    others: bool,
+    null_row: bool,
+    trace: bool,
+}
 
-    let mut meter = Meter::new(trace);
-    if others {
+impl Asked {
+    /// None if a word is not in the usage.
+    fn read(mut words: impl Iterator<Item = String>) -> Option<Asked> {
+        let mut asked = Asked { seed: 20_250_101, quick: false, edits: true, others: true, null_row: false, trace: false };
+        while let Some(word) = words.next() {
+            match word.as_str() {
+                "--seed" => asked.seed = words.next()?.parse().ok()?,
+                "--quick" => asked.quick = true,
+                "--only" => match words.next()?.as_str() {
+                    "edits" => asked.others = false,
+                    "others" => asked.edits = false,
+                    _ => return None,
+                },
+                "--null-row" => asked.null_row = true,
+                "--trace" => asked.trace = true,
+                _ => return None,
+            }
+        }
+        Some(asked)
+    }
+}
+
+fn main() -> ExitCode {
+    let asked = match Asked::read(std::env::args().skip(1)) {
+        Some(asked) => asked,
+        None => {
+            eprintln!("{USAGE}");
+            return ExitCode::from(2);
+        }
+    };
+    println!("seed {}{}", asked.seed, if asked.quick { ", quick" } else { "" });
+    if run(&asked) {
+        ExitCode::SUCCESS
+    } else {
+        ExitCode::FAILURE
+    }
+}
+
+/// True if all passed.
+fn run(asked: &Asked) -> bool {
+    let seed = asked.seed;
+    let part = if asked.quick { 10 } else { 1 };
+    let mut meter = Meter::new(asked.trace);
+    if asked.others {
         known::friction_cells(&mut meter);
         known::tip_cells(&mut meter);
         known::around_the_marks(&mut meter);
@@ -62,20 +86,11 @@ fn main() -> ExitCode {
         records::slices(&mut meter, seed, 2_000 / part);
         seeded::calculations(&mut meter, seed, 200_000 / part);
     }
-    if edits {
+    if asked.edits {
         seeded::edits(&mut meter, seed, 50_000 / part);
     }
-    if null_row {
+    if asked.null_row {
         seeded::without_row(&mut meter, seed);
     }
-    if meter.finish() {
-        ExitCode::SUCCESS
-    } else {
-        ExitCode::FAILURE
-    }
-}
-
-fn wrong_use() -> ExitCode {
-    eprintln!("{USAGE}");
-    ExitCode::from(2)
+    meter.finish()
 }
