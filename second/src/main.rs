@@ -5,7 +5,10 @@
 
 mod compare {
     pub mod dice;
+    pub mod disturb;
     pub mod known;
+    pub mod lending;
+    pub mod logs;
     pub mod makers;
     pub mod meter;
     pub mod records;
@@ -13,7 +16,7 @@ mod compare {
 }
 
 use compare::meter::Meter;
-use compare::{known, records, seeded};
+use compare::{known, logs, records, seeded};
 use std::process::ExitCode;
 
 const USAGE: &str = "usage: compare [--seed N] [--quick] [--only edits|others] [--null-row] [--trace]
@@ -81,7 +84,7 @@ fn run(asked: &Asked) -> bool {
         known::tip_cells(&mut meter);
         known::around_the_marks(&mut meter);
         known::known_cases(&mut meter);
-        records::logs(&mut meter, seed, 20_000 / part);
+        logs::logs(&mut meter, seed, 20_000 / part);
         records::piles(&mut meter, seed, 20_000 / part);
         records::slices(&mut meter, seed, 2_000 / part);
         seeded::calculations(&mut meter, seed, 200_000 / part);

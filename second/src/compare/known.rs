@@ -2,7 +2,8 @@
 
 #![forbid(unsafe_code)]
 
-use super::makers::{Lending, Site};
+use super::lending::Lending;
+use super::makers::Site;
 use super::meter::Meter;
 use second::cases::{self, Known};
 use second::{printed, read_slice, Answer, Pile, Row, Slice, TABLE};

@@ -1,10 +1,10 @@
-//! Makers of logs, piles and tables: good ones, borderline ones, damaged ones.
+//! Makers of logs and piles: good ones, borderline ones, any.
 
 #![forbid(unsafe_code)]
 
 use super::dice::Dice;
 use second::cases::log_of;
-use second::{pile_bytes, Pile, Row, LOG, PILE, ROWS, SLICE, SLICES, TABLE};
+use second::{pile_bytes, Pile, Row, ROWS};
 
 /// A log's rows and a pile, their fields not yet packed.
 #[derive(Clone, Debug)]
@@ -33,6 +33,8 @@ const TIPS: [u32; 17] = [
     3_000, 3_001, 4_999, 5_000, 7_000, 10_000, 12_000, 15_000, 18_000, 19_999, 20_000, 20_001,
     25_000, 30_000, 30_001, 39_999, 40_000,
 ];
+/// Of the zero bits, with and without what they can hold.
+pub const ZEROS: [u8; 10] = [0, 1, 2, 15, 16, 32, 63, 64, 128, 255];
 
 fn soil(dice: &mut Dice, kind: u8) -> Row {
     let index = match kind {
@@ -206,6 +208,15 @@ pub fn good(dice: &mut Dice) -> Site {
         ..Pile::default()
     };
     section(dice, &mut pile);
+    let top = tip - seat(dice, &pile);
+    let rows = ground(dice, tip, top);
+    pile.head = head(dice, tip, top);
+    Site { rows, pile }
+}
+
+/// How far a tip stands in its stratum: mostly enough, often just so.
+fn seat(dice: &mut Dice, pile: &Pile) -> u32 {
+    let tip = u32::from(pile.tip);
     let least = u32::from(pile.a.max(pile.b)).max(2_000);
     let seat = match dice.below(8) {
         0 | 1 => least,
@@ -213,9 +224,12 @@ pub fn good(dice: &mut Dice) -> Site {
         3 if dice.once_in(4) => least - 1,
         4 => tip,
         _ => dice.between(least, least.max(tip.min(12_000))),
-    }
-    .min(tip);
-    let top = tip - seat;
+    };
+    seat.min(tip)
+}
+
+/// Rows around a tip whose stratum begins at a top.
+fn ground(dice: &mut Dice, tip: u32, top: u32) -> Vec<Row> {
     let depth = match dice.below(8) {
         0 => tip + 5_000,
         1 => tip + 5_001,
@@ -228,7 +242,6 @@ pub fn good(dice: &mut Dice) -> Site {
         1 => dice.between(tip + 1, depth),
         _ => depth,
     };
-
     let room = if dice.once_in(3) {
         62
     } else {
@@ -251,8 +264,7 @@ pub fn good(dice: &mut Dice) -> Site {
         }
         _ => {}
     }
-    pile.head = head(dice, tip, top);
-    Site { rows, pile }
+    rows
 }
 
 /// As many strata and slices as there can be, or nearly.
@@ -319,248 +331,15 @@ pub fn loose(dice: &mut Dice) -> Site {
     Site { rows, pile }
 }
 
-/// Moves one value of a site to, or just over, one of its limits.
-pub fn disturb(dice: &mut Dice, site: &mut Site) {
-    let depth: u32 = site.rows.iter().map(|row| u32::from(row.thickness)).sum();
-    let tip = u32::from(site.pile.tip);
-    let place = dice.below(site.rows.len() as u32) as usize;
-    let holder = holding(&site.rows, tip);
-    match dice.below(22) {
-        0 => site.pile.tip = dice.one_of(&[0, 2_999, 3_000, 40_000, 40_001, 65_535]),
-        1 => site.pile.tip = (tip as u16).wrapping_sub(1 - dice.below(3) as u16 % 3),
-        2 => {
-            let ends = depth.saturating_sub(dice.between(4_999, 5_001));
-            site.pile.tip = ends.min(65_535) as u16;
-        }
-        3 => {
-            site.pile.head = (tip as u16)
-                .wrapping_add(dice.below(3) as u16)
-                .wrapping_sub(1)
-        }
-        4 => site.pile.head = dice.one_of(&[0, 1, 65_535]),
-        5 => site.pile.section = dice.one_of(&[0, 3]),
-        6 => {
-            site.pile.section = 1;
-            site.pile.a = dice.one_of(&[0, 149, 150, 2_000, 2_001, 4_095]);
-            site.pile.b = dice.one_of(&[0, 0, 0, 1, 300, 4_095]);
-        }
-        7 => {
-            site.pile.section = 2;
-            site.pile.a = dice.one_of(&[0, 299, 300, 600, 4_000, 4_001, 4_095]);
-            site.pile.b = dice.one_of(&[0, 299, 300, 600, 4_000, 4_001, 4_095]);
-        }
-        8 => site.pile.method = 0,
-        9 => site.pile.zero = dice.between(1, 15) as u8,
-        10 => {
-            site.rows[place].thickness = dice.one_of(&[0, 1, 60_000, 60_001, 65_535, 2_000, 2_001]);
-        }
-        11 => site.rows[place].kind = dice.one_of(&[0, 1, 3, 4, 6, 7]),
-        12 => site.rows[place].index = dice.one_of(&[0, 99, 100, 101, 199, 200, 201, 255]),
-        13 => site.rows[place].saturation = dice.one_of(&[0, 89, 90, 100, 101, 127]),
-        14 => site.rows[place].zero = dice.one_of(&[1, 2, 32, 63]),
-        15 => {
-            // The depth to just 60,000, or one more.
-            let last = site.rows.len() - 1;
-            let rest = depth - u32::from(site.rows[last].thickness);
-            let wanted = dice.between(60_000, 60_001);
-            site.rows[last].thickness = wanted.saturating_sub(rest).min(65_535) as u16;
-        }
-        16 | 17 => {
-            if let Some(holder) = holder {
-                recolour(&mut site.rows, holder, |row| {
-                    if row.kind >= 4 {
-                        row.index = [159, 160, 161, 140, 141, 200][usize::from(row.saturation) % 6];
-                    }
-                });
-            }
-        }
-        18 => {
-            if let Some(holder) = holder {
-                let saturation = dice.one_of(&[89, 90]);
-                recolour(&mut site.rows, holder, |row| row.saturation = saturation);
-            }
-        }
-        19 => {
-            if let Some(holder) = holder {
-                let kind = dice.between(1, 3) as u8;
-                recolour(&mut site.rows, holder, |row| {
-                    row.kind = kind;
-                    row.index = 100;
-                });
-            }
-        }
-        20 => {
-            // The tip to a row's end, or 2,000 or the longer side below it, give or take one.
-            let ends: u32 = site.rows[..=place]
-                .iter()
-                .map(|row| u32::from(row.thickness))
-                .sum();
-            let side = u32::from(site.pile.a.max(site.pile.b));
-            let seat = dice.one_of(&[0, 2_000, side]);
-            site.pile.tip = (ends + seat + dice.below(3)).saturating_sub(1).min(65_535) as u16;
-        }
-        _ => {
-            if let Some(first) = site.rows.first().copied() {
-                let place = place.max(1).min(site.rows.len() - 1);
-                site.rows[place].kind = first.kind;
-                site.rows[place].index = first.index;
-                site.rows[place].saturation = first.saturation;
-            }
+/// Every record with every value of one field.
+pub fn with_each<R: Copy, V: Copy>(records: &[R], values: &[V], set: impl Fn(&mut R, V)) -> Vec<R> {
+    let mut all = Vec::new();
+    for record in records {
+        for value in values {
+            let mut changed = *record;
+            set(&mut changed, *value);
+            all.push(changed);
         }
     }
-}
-
-/// The row with the millimetre just below a depth.
-fn holding(rows: &[Row], depth: u32) -> Option<usize> {
-    let mut bottom = 0;
-    rows.iter().position(|row| {
-        bottom += u32::from(row.thickness);
-        depth < bottom
-    })
-}
-
-/// Changes the soil of a row and of all rows joined to it by the same soil.
-fn recolour(rows: &mut [Row], place: usize, change: impl Fn(&mut Row)) {
-    let soil = |row: &Row| (row.kind, row.index, row.saturation);
-    let was = soil(&rows[place]);
-    let mut from = place;
-    while from > 0 && soil(&rows[from - 1]) == was {
-        from -= 1;
-    }
-    for row in rows[from..].iter_mut().take_while(|row| soil(row) == was) {
-        change(row);
-    }
-}
-
-/// What is lent to a call.
-#[derive(Clone, Debug)]
-pub struct Lending {
-    pub log: Vec<u8>,
-    pub pile: Vec<u8>,
-    pub table: Vec<u8>,
-}
-
-/// Spoils what is lent: lengths, bits, bytes.
-pub fn damage(dice: &mut Dice, lent: &mut Lending) {
-    match dice.below(12) {
-        0 => resize(dice, &mut lent.log, LOG),
-        1 => resize(dice, &mut lent.pile, PILE),
-        2 => resize(dice, &mut lent.table, TABLE),
-        3 | 4 => flip(dice, &mut lent.log),
-        5 | 6 => flip(dice, &mut lent.pile),
-        7 => {
-            let len = lent.log.len();
-            lent.log = dice.bytes(len);
-            if len > 0 && dice.once_in(2) {
-                lent.log[0] = 64;
-            }
-        }
-        8 => {
-            let len = lent.pile.len();
-            lent.pile = dice.bytes(len);
-        }
-        9 => {
-            if let Some(count) = lent.log.first_mut() {
-                *count = match dice.below(4) {
-                    0 => dice.one_of(&[0, 64, 65, 128, 255]),
-                    1 => count.wrapping_add(1),
-                    2 => count.wrapping_sub(1),
-                    _ => dice.byte(),
-                };
-            }
-        }
-        10 => {
-            // An unused place that is not zero.
-            let used = 1 + 5 * usize::from(lent.log.first().copied().unwrap_or(0));
-            if used < lent.log.len() {
-                let place = dice.between(used as u32, lent.log.len() as u32 - 1) as usize;
-                lent.log[place] = dice.byte() | 1;
-            }
-        }
-        _ => {
-            // One used byte anew.
-            let used = 1 + 5 * usize::from(lent.log.first().copied().unwrap_or(0)).min(64);
-            if used <= lent.log.len() {
-                let place = dice.below(used as u32) as usize;
-                lent.log[place] = dice.byte();
-            }
-        }
-    }
-}
-
-fn resize(dice: &mut Dice, piece: &mut Vec<u8>, right: usize) {
-    let len = match dice.below(4) {
-        0 => right - 1,
-        1 => right + 1,
-        2 => dice.one_of(&[
-            0,
-            1,
-            5,
-            7,
-            8,
-            9,
-            256,
-            320,
-            321,
-            322,
-            329,
-            580,
-            581,
-            582,
-            65_536 + 321,
-        ]),
-        _ => dice.below(401) as usize,
-    };
-    piece.resize(len, 0);
-}
-
-fn flip(dice: &mut Dice, piece: &mut [u8]) {
-    if piece.is_empty() {
-        return;
-    }
-    for _ in 0..dice.between(1, 3) {
-        let place = dice.below(piece.len() as u32) as usize;
-        piece[place] ^= 1 << dice.below(8);
-    }
-}
-
-/// A table to lend: empty, full, random, or the right one with or without a spot.
-pub fn table(dice: &mut Dice, right: impl FnOnce() -> Vec<u8>) -> Vec<u8> {
-    match dice.below(10) {
-        0 => vec![0; TABLE],
-        1 => vec![0xFF; TABLE],
-        2 => dice.bytes(TABLE),
-        _ => {
-            let mut table = right();
-            spot(dice, &mut table);
-            table
-        }
-    }
-}
-
-/// Leaves a table as it is, or spoils a part of it.
-pub fn spot(dice: &mut Dice, table: &mut [u8]) {
-    if table.len() != TABLE {
-        return;
-    }
-    let used = table
-        .chunks(SLICE)
-        .filter(|slice| slice.iter().any(|byte| *byte != 0))
-        .count();
-    let near = dice.below(used.max(1) as u32 + 1) as usize;
-    let from = near.min(SLICES - 1) * SLICE;
-    match dice.below(8) {
-        0 => {
-            let place = from + dice.below(SLICE as u32) as usize;
-            table[place] ^= 1 << dice.below(8);
-        }
-        1 => dice.fill(&mut table[from..]),
-        2 => table[from..].fill(0),
-        3 => {
-            // Right slices, but one place further down.
-            table.copy_within(from..TABLE - SLICE, from + SLICE);
-        }
-        4 => table[from + SLICE - 1] ^= 1,
-        _ => {}
-    }
+    all
 }

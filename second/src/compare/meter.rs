@@ -3,7 +3,7 @@
 
 #![forbid(unsafe_code)]
 
-use super::makers::Lending;
+use super::lending::Lending;
 use second::{door, Answer, Log, Pile, Slice};
 use std::fmt::Debug;
 

@@ -1,274 +1,32 @@
-//! Reading and packing of logs, pile records and slices.
+//! Reading and packing of pile records, and reading of slices.
 
 #![forbid(unsafe_code)]
 
 use super::dice::Dice;
-use super::makers::{damage, disturb, good, Lending};
+use super::disturb::disturb;
+use super::makers::{good, with_each, ZEROS};
 use super::meter::Meter;
-use second::cases::log_of;
-use second::{pile_bytes, Answer, Log, Pile, Row, LOG, PILE, ROWS, SLICES, TABLE};
+use second::{pile_bytes, Pile, PILE, SLICES, TABLE};
 
-const THICKNESSES: [u16; 9] = [0, 1, 2, 2_000, 32_768, 59_999, 60_000, 60_001, 65_535];
-/// With and without what three bits can hold.
-const KINDS: [u8; 13] = [0, 1, 2, 3, 4, 5, 6, 7, 8, 9, 12, 128, 255];
-const INDEXES: [u8; 12] = [0, 1, 99, 100, 101, 127, 128, 199, 200, 201, 254, 255];
-const SATURATIONS: [u8; 11] = [0, 1, 89, 90, 99, 100, 101, 127, 128, 228, 255];
-const ZEROS: [u8; 10] = [0, 1, 2, 15, 16, 32, 63, 64, 128, 255];
+/// With and without what two bits can hold.
+const SECTIONS: [u8; 9] = [0, 1, 2, 3, 4, 5, 6, 128, 255];
+const METHODS: [u8; 9] = [0, 1, 2, 3, 4, 5, 7, 128, 255];
 const SIDES: [u16; 20] = [
     0, 1, 149, 150, 151, 299, 300, 301, 1_999, 2_000, 2_001, 3_999, 4_000, 4_001, 4_095, 4_096,
     4_246, 4_396, 8_192, 65_535,
 ];
 const DEPTHS: [u16; 8] = [0, 1, 2_999, 3_000, 40_000, 40_001, 65_534, 65_535];
 
-/// A row's every field lowest, highest and one off.
-fn rows_around() -> Vec<Row> {
-    let plain = [
-        Row {
-            thickness: 20_000,
-            kind: 6,
-            index: 130,
-            saturation: 95,
-            zero: 0,
-        },
-        Row {
-            thickness: 1,
-            kind: 2,
-            index: 100,
-            saturation: 100,
-            zero: 0,
-        },
-    ];
-    let mut rows = Vec::new();
-    for row in plain {
-        rows.extend(THICKNESSES.map(|thickness| Row { thickness, ..row }));
-        rows.extend(SATURATIONS.map(|saturation| Row { saturation, ..row }));
-        rows.extend(ZEROS.map(|zero| Row { zero, ..row }));
-        for kind in KINDS {
-            rows.extend(INDEXES.map(|index| Row { kind, index, ..row }));
-        }
-    }
-    // Two fields wrong at once: the lower is named.
-    for thickness in [0, 1] {
-        for kind in [0, 1, 6] {
-            for index in [100, 201] {
-                for saturation in [100, 101] {
-                    for zero in [0, 1] {
-                        rows.push(Row {
-                            thickness,
-                            kind,
-                            index,
-                            saturation,
-                            zero,
-                        });
-                    }
-                }
-            }
-        }
-    }
-    rows
-}
-
-/// Fields of a log, with something in the places a packing does not look at.
-fn log_fields(dice: &mut Dice, rows: &[Row]) -> Log {
-    let mut fields = Log {
-        refusal: dice.below(20),
-        row: dice.below(70),
-        field: dice.below(7),
-        count: rows.len() as u8,
-        ..Log::default()
-    };
-    fields.rows[..rows.len()].copy_from_slice(rows);
-    fields
-}
-
-pub fn logs(meter: &mut Meter, seed: u64, cases: u64) {
-    let dice = &mut Dice::new(seed, 4, 0);
-    meter.group("logs read");
-    let sixty_four = {
-        let mut site = good(dice);
-        while site.rows.len() != ROWS {
-            site = good(dice);
-        }
-        site
-    };
-    for len in 0..=330 {
-        meter.case(format!("length {len}"));
-        for filling in [vec![0; len], vec![1; len], dice.bytes(len)] {
-            meter.read_log(&filling);
-        }
-        for site in [good(dice), sixty_four.clone()] {
-            let mut log = site.log();
-            log.resize(len, 0);
-            meter.read_log(&log);
-        }
-    }
-    for count in 0..=255 {
-        meter.case(format!("count {count}"));
-        for mut log in [
-            vec![0; LOG],
-            good(dice).log(),
-            sixty_four.log(),
-            dice.bytes(LOG),
-        ] {
-            log[0] = count;
-            meter.read_log(&log);
-            // Good rows exactly as many as counted, and one byte of the rest not zero.
-            let used = (1 + 5 * usize::from(count)).min(LOG);
-            let mut log = sixty_four.log();
-            log[0] = count;
-            log[used..].fill(0);
-            meter.read_log(&log);
-            if used < LOG {
-                log[dice.between(used as u32, LOG as u32 - 1) as usize] = 1 << dice.below(8);
-                meter.read_log(&log);
-            }
-        }
-    }
-    let around = rows_around();
-    for (number, row) in around.iter().enumerate() {
-        meter.case(format!("row {number}"));
-        for place in [0, 1, dice.below(64) as usize, 63] {
-            let mut rows = sixty_four.rows.clone();
-            rows[place] = *row;
-            meter.read_log(&log_of(&rows));
-            meter.read_log(&log_of(&rows[..=place]));
-        }
-    }
-    for case in 0..cases {
-        let dice = &mut Dice::new(seed, 5, case);
-        meter.case(format!("case {case}"));
-        let mut site = good(dice);
-        if dice.once_in(2) {
-            disturb(dice, &mut site);
-        }
-        let mut lent = Lending {
-            log: site.log(),
-            pile: site.pile(),
-            table: Vec::new(),
-        };
-        if dice.once_in(2) {
-            damage(dice, &mut lent);
-        }
-        meter.read_log(&lent.log);
-    }
-
-    meter.group("logs packed");
-    for len in 0..=330 {
-        meter.case(format!("length {len}"));
-        let room = dice.bytes(len);
-        let site = good(dice);
-        let fields = log_fields(dice, &site.rows);
-        meter.pack_log(&fields, &room);
-        let fields = log_fields(dice, &[Row::default()]);
-        meter.pack_log(&fields, &room);
-    }
-    for count in 0..=255 {
-        meter.case(format!("count {count}"));
-        let room = dice.bytes(LOG);
-        let mut full = log_fields(dice, &sixty_four.rows);
-        full.count = count;
-        meter.pack_log(&full, &room);
-        for row in full.rows.iter_mut().skip(usize::from(count)) {
-            *row = Row::default();
-        }
-        meter.pack_log(&full, &room);
-        // One field of one row beyond the count.
-        if usize::from(count) < ROWS {
-            let spot = dice.between(u32::from(count), 63) as usize;
-            for field in 0..5 {
-                let mut full = full.clone();
-                let row = &mut full.rows[spot];
-                match field {
-                    0 => row.thickness = dice.one_of(&[1, 256, 32_768, 65_535]),
-                    1 => row.kind = dice.one_of(&[1, 8, 255]),
-                    2 => row.index = dice.one_of(&[1, 100, 255]),
-                    3 => row.saturation = dice.one_of(&[1, 128, 255]),
-                    _ => row.zero = dice.one_of(&[1, 64, 255]),
-                }
-                meter.pack_log(&full, &room);
-            }
-        }
-        let mut empty = log_fields(dice, &[]);
-        empty.count = count;
-        meter.pack_log(&empty, &room);
-    }
-    for (number, row) in around.iter().enumerate() {
-        meter.case(format!("row {number}"));
-        for place in [0, 1, dice.below(64) as usize, 63] {
-            let mut rows = sixty_four.rows.clone();
-            rows[place] = *row;
-            let room = dice.bytes(LOG);
-            let fields = log_fields(dice, &rows);
-            meter.pack_log(&fields, &room);
-            let fields = log_fields(dice, &rows[..=place]);
-            let (answer, packed) = meter.pack_log(&fields, &room);
-            there_and_back(meter, &fields, answer, &packed);
-        }
-    }
-    for case in 0..cases {
-        let dice = &mut Dice::new(seed, 6, case);
-        meter.case(format!("case {case}"));
-        let mut site = good(dice);
-        if dice.once_in(3) {
-            disturb(dice, &mut site);
-        }
-        let mut fields = log_fields(dice, &site.rows);
-        if dice.once_in(3) {
-            let place = dice.below(64) as usize;
-            fields.rows[place] = Row {
-                thickness: dice.bits() as u16,
-                kind: dice.byte(),
-                index: dice.byte(),
-                saturation: dice.byte(),
-                zero: dice.byte(),
-            };
-        }
-        let room = dice.bytes(LOG);
-        let (answer, packed) = meter.pack_log(&fields, &room);
-        there_and_back(meter, &fields, answer, &packed);
-    }
-}
-
-/// A packed log reads as what was packed.
-fn there_and_back(meter: &mut Meter, fields: &Log, answer: Answer, packed: &[u8]) {
-    if answer.refusal == 0 {
-        let back = meter.read_log(packed);
-        let same = (back.refusal, back.count, back.rows) == (0, fields.count, fields.rows);
-        meter.count(same, || format!("  packed {fields:?}, read {back:?}"));
-    }
-}
-
 pub fn piles(meter: &mut Meter, seed: u64, cases: u64) {
     let dice = &mut Dice::new(seed, 8, 0);
-    meter.group("pile records read");
-    for len in 0..=12 {
-        meter.case(format!("length {len}"));
-        for _ in 0..20 {
-            let mut pile = good(dice).pile();
-            pile.resize(len, 0);
-            meter.read_pile(&pile);
-            let pile = dice.bytes(len);
-            meter.read_pile(&pile);
-        }
-    }
     let around = piles_around();
+    meter.group("pile records read");
+    read_lengths(meter, dice);
     for pile in &around {
         meter.case(format!("{pile:?}"));
         meter.read_pile(&pile_bytes(pile));
     }
-    for case in 0..cases {
-        let dice = &mut Dice::new(seed, 9, case);
-        meter.case(format!("case {case}"));
-        let mut pile = if dice.once_in(3) {
-            dice.bytes(PILE)
-        } else {
-            good(dice).pile()
-        };
-        if dice.once_in(2) {
-            pile[dice.below(8) as usize] ^= 1 << dice.below(8);
-        }
-        meter.read_pile(&pile);
-    }
+    read_seeded(meter, seed, cases);
 
     meter.group("pile records packed");
     for len in 0..=12 {
@@ -283,6 +41,39 @@ pub fn piles(meter: &mut Meter, seed: u64, cases: u64) {
         let room = dice.bytes(PILE);
         pack_and_read(meter, dice, pile, &room);
     }
+    pack_seeded(meter, seed, cases);
+}
+
+fn read_lengths(meter: &mut Meter, dice: &mut Dice) {
+    for len in 0..=12 {
+        meter.case(format!("length {len}"));
+        for _ in 0..20 {
+            let mut pile = good(dice).pile();
+            pile.resize(len, 0);
+            meter.read_pile(&pile);
+            let pile = dice.bytes(len);
+            meter.read_pile(&pile);
+        }
+    }
+}
+
+fn read_seeded(meter: &mut Meter, seed: u64, cases: u64) {
+    for case in 0..cases {
+        let dice = &mut Dice::new(seed, 9, case);
+        meter.case(format!("case {case}"));
+        let mut pile = if dice.once_in(3) {
+            dice.bytes(PILE)
+        } else {
+            good(dice).pile()
+        };
+        if dice.once_in(2) {
+            pile[dice.below(8) as usize] ^= 1 << dice.below(8);
+        }
+        meter.read_pile(&pile);
+    }
+}
+
+fn pack_seeded(meter: &mut Meter, seed: u64, cases: u64) {
     for case in 0..cases {
         let dice = &mut Dice::new(seed, 10, case);
         meter.case(format!("case {case}"));
@@ -345,41 +136,33 @@ fn piles_around() -> Vec<Pile> {
     };
     let mut piles = Vec::new();
     for pile in [circle, rectangle] {
-        piles.extend([0, 1, 2, 3, 4, 5, 6, 128, 255].map(|section| Pile { section, ..pile }));
-        piles.extend([0, 1, 2, 3, 4, 5, 7, 128, 255].map(|method| Pile { method, ..pile }));
+        piles.extend(SECTIONS.map(|section| Pile { section, ..pile }));
+        piles.extend(METHODS.map(|method| Pile { method, ..pile }));
         for a in SIDES {
             piles.extend(SIDES.map(|b| Pile { a, b, ..pile }));
         }
         for head in DEPTHS {
             piles.extend(DEPTHS.map(|tip| Pile { head, tip, ..pile }));
         }
-        for zero in ZEROS {
-            piles.extend([0, 1, 3, 4].map(|method| Pile {
-                zero,
-                method,
-                ..pile
-            }));
-        }
+        let zeros = with_each(&[pile], &ZEROS, |pile, zero| pile.zero = zero);
+        piles.extend(with_each(&zeros, &[0, 1, 3, 4], |pile, method| {
+            pile.method = method
+        }));
     }
-    for section in [0, 1, 2, 3, 4] {
-        for a in [0, 600] {
-            for b in [0, 600] {
-                for method in [0, 2] {
-                    for zero in [0, 8] {
-                        piles.push(Pile {
-                            section,
-                            a,
-                            b,
-                            method,
-                            zero,
-                            ..circle
-                        });
-                    }
-                }
-            }
-        }
-    }
+    piles.extend(piles_mixed(circle));
     piles
+}
+
+/// All mixtures of right and wrong fields: the lowest wrong one is named.
+fn piles_mixed(circle: Pile) -> Vec<Pile> {
+    let mut piles = vec![circle];
+    piles = with_each(&piles, &[0, 1, 2, 3, 4], |pile, section| {
+        pile.section = section
+    });
+    piles = with_each(&piles, &[0, 600], |pile, a| pile.a = a);
+    piles = with_each(&piles, &[0, 600], |pile, b| pile.b = b);
+    piles = with_each(&piles, &[0, 2], |pile, method| pile.method = method);
+    with_each(&piles, &[0, 8], |pile, zero| pile.zero = zero)
 }
 
 pub fn slices(meter: &mut Meter, seed: u64, cases: u64) {

@@ -3,7 +3,9 @@
 #![forbid(unsafe_code)]
 
 use super::dice::Dice;
-use super::makers::{damage, disturb, good, loose, spot, table, Lending, Site};
+use super::disturb::disturb;
+use super::lending::{damage, spot, table, Lending};
+use super::makers::{good, loose, Site};
 use super::meter::{Edit, Meter};
 use second::{row_bytes, Answer, Row, SLICE, TABLE};
 
