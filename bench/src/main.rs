@@ -68,8 +68,8 @@ struct Scene {
     dragged: Option<(u32, Row)>,
 }
 
-fn scenes() -> [Scene; 4] {
-    // 64 strata, 83 slices: as many as there can be.
+/// 64 strata, 83 slices: as many as there can be; and the tip that stands in the last.
+fn full_log() -> (Vec<Row>, u64) {
     let mut full = Vec::new();
     for place in 0..63 {
         let thickness = if place % 7 < 2 { 2_001 } else { 1 };
@@ -79,17 +79,22 @@ fn scenes() -> [Scene; 4] {
     }
     let tip = full.iter().map(|row| row.0).sum::<u64>() + 2_001;
     full.push((2_001 + 5_200, 6, 133, 95));
+    (full, tip)
+}
 
-    let usual = [
-        (1_200, 5, 145, 80),
-        (1_800, 2, 100, 70),
-        (2_500, 4, 160, 90),
-        (2_200, 5, 172, 95),
-        (1_700, 3, 100, 98),
-        (2_600, 6, 138, 95),
-        (6_000, 6, 127, 96),
-        (7_000, 5, 115, 97),
-    ];
+const USUAL_LOG: [Row; 8] = [
+    (1_200, 5, 145, 80),
+    (1_800, 2, 100, 70),
+    (2_500, 4, 160, 90),
+    (2_200, 5, 172, 95),
+    (1_700, 3, 100, 98),
+    (2_600, 6, 138, 95),
+    (6_000, 6, 127, 96),
+    (7_000, 5, 115, 97),
+];
+
+fn scenes() -> [Scene; 4] {
+    let (full, tip) = full_log();
     [
         Scene {
             name: "full log",
@@ -100,17 +105,17 @@ fn scenes() -> [Scene; 4] {
         },
         Scene {
             name: "usual log",
-            log: log_of(&usual),
+            log: log_of(&USUAL_LOG),
             pile: pile_of(2, 1_000, 17_000),
             slices: 12,
             dragged: None,
         },
         Scene {
             name: "dragged boundary",
-            log: log_of(&usual),
+            log: log_of(&USUAL_LOG),
             pile: pile_of(2, 1_000, 17_000),
             slices: 12,
-            dragged: Some((3, usual[2])),
+            dragged: Some((3, USUAL_LOG[2])),
         },
         Scene {
             name: "dragged, full log",
