@@ -4,6 +4,7 @@
 #![forbid(unsafe_code)]
 
 mod compare {
+    pub mod choose;
     pub mod dice;
     pub mod disturb;
     pub mod known;

@@ -130,46 +130,57 @@ pub fn around_the_marks(meter: &mut Meter) {
     for line in printed::FRICTION {
         let mark = 2_000 * printed::words(line)[0].parse::<u32>().expect("a depth");
         for middle in mark - 3..=mark + 3 {
-            // Depths in half millimetres: an even middle is that of an even thickness.
-            let thicknesses = if middle % 2 == 0 {
-                [2, 2_000]
-            } else {
-                [1, 1_999]
-            };
-            for thickness in thicknesses {
-                if middle < thickness {
-                    continue;
-                }
-                let top = (middle - thickness) / 2;
-                for index in (0..=120).step_by(40).chain(121..=200) {
-                    let tip = (top + thickness + 2_000).max(3_000);
-                    let upper = row(top + thickness, 4 + index % 3, index);
-                    let lower = Row {
-                        saturation: 94,
-                        ..row(tip + 5_000 - (top + thickness), 6, 125)
-                    };
-                    let site = Site {
-                        rows: vec![upper, lower],
-                        pile: square(top, tip),
-                    };
-                    meter.case(format!("middle {middle} half mm, stored index {index}"));
-                    meter.calculate(&lend(&site));
-                }
-            }
+            slices_around(meter, middle);
         }
     }
     for line in printed::TIP {
         let mark = 1_000 * printed::words(line)[0].parse::<u32>().expect("a depth");
         for tip in mark - 1..=mark + 1 {
-            for index in (0..=90).step_by(30).chain(98..=162) {
-                let site = Site {
-                    rows: vec![row(tip + 5_000, 4 + index % 3, index)],
-                    pile: square(tip / 2, tip),
-                };
-                meter.case(format!("tip {tip}, stored index {index}"));
-                meter.calculate(&lend(&site));
-            }
+            tips_at(meter, tip);
         }
+    }
+}
+
+/// Thin and thick slices around a middle in half millimetres: an even middle is that of
+/// an even thickness.
+fn slices_around(meter: &mut Meter, middle: u32) {
+    let thicknesses = if middle % 2 == 0 {
+        [2, 2_000]
+    } else {
+        [1, 1_999]
+    };
+    for thickness in thicknesses {
+        if middle >= thickness {
+            first_slices(meter, middle, (middle - thickness) / 2, thickness);
+        }
+    }
+}
+
+fn first_slices(meter: &mut Meter, middle: u32, top: u32, thickness: u32) {
+    for index in (0..=120).step_by(40).chain(121..=200) {
+        let tip = (top + thickness + 2_000).max(3_000);
+        let upper = row(top + thickness, 4 + index % 3, index);
+        let lower = Row {
+            saturation: 94,
+            ..row(tip + 5_000 - (top + thickness), 6, 125)
+        };
+        let site = Site {
+            rows: vec![upper, lower],
+            pile: square(top, tip),
+        };
+        meter.case(format!("middle {middle} half mm, stored index {index}"));
+        meter.calculate(&lend(&site));
+    }
+}
+
+fn tips_at(meter: &mut Meter, tip: u32) {
+    for index in (0..=90).step_by(30).chain(98..=162) {
+        let site = Site {
+            rows: vec![row(tip + 5_000, 4 + index % 3, index)],
+            pile: square(tip / 2, tip),
+        };
+        meter.case(format!("tip {tip}, stored index {index}"));
+        meter.calculate(&lend(&site));
     }
 }
 
@@ -184,20 +195,7 @@ pub fn known_cases(meter: &mut Meter) {
             table: vec![0xC3; TABLE],
         };
         let (_, answer, table) = meter.calculate(&lent);
-        let expected = match case.known {
-            Known::Numbers([line, tip, shaft, capacity, uplift]) => Answer {
-                line,
-                tip,
-                shaft,
-                capacity,
-                uplift,
-                ..Answer::default()
-            },
-            Known::Refusal(refusal) => Answer {
-                refusal,
-                ..Answer::default()
-            },
-        };
+        let expected = expected(case.known);
         meter.count(answer == expected, || {
             format!("  not the known numbers {expected:?}: {answer:?}")
         });
@@ -213,6 +211,23 @@ pub fn known_cases(meter: &mut Meter) {
         if case.name == "A" {
             slices_of_case_a(meter, &case, &table);
         }
+    }
+}
+
+fn expected(known: Known) -> Answer {
+    match known {
+        Known::Numbers([line, tip, shaft, capacity, uplift]) => Answer {
+            line,
+            tip,
+            shaft,
+            capacity,
+            uplift,
+            ..Answer::default()
+        },
+        Known::Refusal(refusal) => Answer {
+            refusal,
+            ..Answer::default()
+        },
     }
 }
 

@@ -197,21 +197,7 @@ impl Meter {
         self.guarded = !self.guarded;
         let mut held = self.hold(&before);
         let mut brought = Held::new(edit.row, self.guarded);
-        let [log, pile, table] = &mut held;
-        let reply = if edit.without_row {
-            let (log, pile, table) = (log.piece(), pile.piece(), table.piece());
-            door::edit_without_row(log, pile, table, edit.kind, edit.k, edit.x)
-        } else {
-            door::edit(
-                log.piece(),
-                pile.piece(),
-                table.piece(),
-                edit.kind,
-                edit.k,
-                edit.x,
-                brought.piece(),
-            )
-        };
+        let reply = edit_by_library(&mut held, edit, brought.piece());
 
         let expected = [&lent.log[..], &lent.pile, &lent.table];
         let same = reply == own && unchanged(&held, expected) && brought.back() == Some(edit.row);
@@ -295,6 +281,17 @@ impl Meter {
 
     fn hold(&self, lent: &Lending) -> [Held; 3] {
         [&lent.log, &lent.pile, &lent.table].map(|piece| Held::new(piece, self.guarded))
+    }
+}
+
+fn edit_by_library(held: &mut [Held; 3], edit: &Edit, row: &[u8]) -> Answer {
+    let [log, pile, table] = held;
+    let (log, pile, table) = (log.piece(), pile.piece(), table.piece());
+    let Edit { kind, k, x, .. } = *edit;
+    if edit.without_row {
+        door::edit_without_row(log, pile, table, kind, k, x)
+    } else {
+        door::edit(log, pile, table, kind, k, x, row)
     }
 }
 
