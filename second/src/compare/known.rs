@@ -57,31 +57,35 @@ pub fn friction_cells(meter: &mut Meter) {
         let words = printed::words(line);
         let depth = 1_000 * words[0].parse::<u32>().expect("a depth");
         for (column, word) in words.iter().enumerate().skip(1) {
-            let kilopascals: u32 = word.parse().expect("a cell");
-            // The soil of the cell, and its sand if it has one.
-            let mut soils = vec![(4 + (column % 3) as u8, stored(heads[column]))];
-            if column <= 3 {
-                soils.push((column as u8, 100));
-            }
-            for (kind, index) in soils {
-                let upper = row(depth + 1_000, kind, index);
-                let lower = row(2_000 + 5_000, 6, if depth < 15_000 { 155 } else { 125 });
-                let site = Site {
-                    rows: vec![upper, lower],
-                    pile: square(depth - 1_000, depth + 3_000),
-                };
-                meter.case(format!("{depth} mm, column {}, kind {kind}", heads[column]));
-                let (_, answer, table) = meter.calculate(&lend(&site));
-                let first = read_slice(&table, 0);
-                meter.count(
-                    answer.refusal == 0 && first.friction == 200_000 * kilopascals,
-                    || format!("  not the printed {kilopascals} kPa: {answer:?} {first:?}"),
-                );
-            }
+            let kilopascals = word.parse().expect("a cell");
+            friction_cell(meter, depth, column, heads[column], kilopascals);
             cells += 1;
         }
     }
     meter.note(format!("{cells} cells"));
+}
+
+/// In the soil of the cell, and in its sand if it has one.
+fn friction_cell(meter: &mut Meter, depth: u32, column: usize, head: &str, kilopascals: u32) {
+    let mut soils = vec![(4 + (column % 3) as u8, stored(head))];
+    if column <= 3 {
+        soils.push((column as u8, 100));
+    }
+    for (kind, index) in soils {
+        let upper = row(depth + 1_000, kind, index);
+        let lower = row(2_000 + 5_000, 6, if depth < 15_000 { 155 } else { 125 });
+        let site = Site {
+            rows: vec![upper, lower],
+            pile: square(depth - 1_000, depth + 3_000),
+        };
+        meter.case(format!("{depth} mm, column {head}, kind {kind}"));
+        let (_, answer, table) = meter.calculate(&lend(&site));
+        let first = read_slice(&table, 0);
+        meter.count(
+            answer.refusal == 0 && first.friction == 200_000 * kilopascals,
+            || format!("  not the printed {kilopascals} kPa: {answer:?} {first:?}"),
+        );
+    }
 }
 
 /// Every cell of the tip table is a calculation's tip resistance; a dash is refused.
@@ -93,27 +97,7 @@ pub fn tip_cells(meter: &mut Meter) {
         let words = printed::words(line);
         let tip = 1_000 * words[0].parse::<u32>().expect("a depth");
         for (column, word) in words.iter().enumerate().skip(1) {
-            let index = stored(heads[column]);
-            let mut indexes = vec![index];
-            if index == 100 {
-                indexes.extend([0, 99]);
-            }
-            for index in indexes {
-                let kind = 4 + (column % 3) as u8;
-                let site = Site {
-                    rows: vec![row(tip + 5_000, kind, index)],
-                    pile: square(0, tip),
-                };
-                meter.case(format!("{tip} mm, stored index {index}"));
-                let (_, answer, _) = meter.calculate(&lend(&site));
-                let right = match word.parse::<u64>() {
-                    Ok(kilopascals) => answer.refusal == 0 && answer.tip == 1_000 * kilopascals,
-                    Err(_) => answer.refusal == 12,
-                };
-                meter.count(right, || {
-                    format!("  not the printed {word} kPa: {answer:?}")
-                });
-            }
+            tip_cell(meter, tip, column, stored(heads[column]), word);
             match *word {
                 "-" => dashes += 1,
                 _ => cells += 1,
@@ -121,6 +105,30 @@ pub fn tip_cells(meter: &mut Meter) {
         }
     }
     meter.note(format!("{cells} cells, {dashes} dashes"));
+}
+
+/// At the index of the cell; the first column also holds below it.
+fn tip_cell(meter: &mut Meter, tip: u32, column: usize, index: u8, word: &str) {
+    let mut indexes = vec![index];
+    if index == 100 {
+        indexes.extend([0, 99]);
+    }
+    for index in indexes {
+        let kind = 4 + (column % 3) as u8;
+        let site = Site {
+            rows: vec![row(tip + 5_000, kind, index)],
+            pile: square(0, tip),
+        };
+        meter.case(format!("{tip} mm, stored index {index}"));
+        let (_, answer, _) = meter.calculate(&lend(&site));
+        let right = match word.parse::<u64>() {
+            Ok(kilopascals) => answer.refusal == 0 && answer.tip == 1_000 * kilopascals,
+            Err(_) => answer.refusal == 12,
+        };
+        meter.count(right, || {
+            format!("  not the printed {word} kPa: {answer:?}")
+        });
+    }
 }
 
 /// Slices whose middle lies on a depth of the friction table or just beside it, at
