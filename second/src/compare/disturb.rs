@@ -26,7 +26,7 @@ fn disturb_depths(dice: &mut Dice, pile: &mut Pile, depth: u32, way: u32) {
     let tip = pile.tip;
     match way {
         0 => pile.tip = dice.one_of(&[0, 2_999, 3_000, 40_000, 40_001, 65_535]),
-        1 => pile.tip = tip.wrapping_sub(1 - dice.below(3) as u16 % 3),
+        1 => pile.tip = tip.wrapping_add(dice.below(3) as u16).wrapping_sub(1),
         2 => {
             let ends = depth.saturating_sub(dice.between(4_999, 5_001));
             pile.tip = ends.min(65_535) as u16;
