@@ -1,4 +1,4 @@
--- Laws that the proofs of the functions cite.
+-- Laws that the proofs of the functions cite, and what the checks leave known.
 pub mod RowChecks
 pub mod ChangeChecks
 pub mod EditChecks

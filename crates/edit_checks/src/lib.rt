@@ -1,22 +1,28 @@
 // The refusals of an edit, in order: 1 to 4 of what is lent, 13, 14, 3 for the new row, 4 for the new log; and how deep the new log is.
-use logs::Checked;
+use base_replies::refuse;
+use edit_naming::brings;
+use edit_naming::named_row;
+use record_logs::Checked;
+use record_rows::read_row;
 use rules::DEPTH_LIMIT;
-use rules::LOG_SIZE;
-use rules::PILE_SIZE;
 use rules::ROW_SIZE;
 use rules::Refusal;
-use rules::TABLE_SIZE;
 ghost use mathlib.Core.Path.{_≡_};
-ghost use Prim.Native.Nat.{_≤_, _<_};
-ghost use Rattle.rules.specs.Base.{refuse};
+ghost use mathlib.Core.Logic.{_⊎_};
+ghost use Prim.Native.Nat.{_+_, _*_, _≤_, _<_};
+ghost use lib.ListN.{length};
+ghost use Rattle.rules.specs.Base as base;
+ghost use Rattle.rules.specs.Records.{rowSize};
+ghost use Rattle.rules.specs.Packed.{countOf, rowsOf};
+ghost use Rattle.rules.specs.Checks.{depthOf, Passed};
 ghost use Rattle.rules.specs.Edits as rule;
-ghost use Rattle.edited.specs.Asked.{asked, Brought, Passed, goes, comes};
-ghost use Rattle.edit_checks.specs.Checked.{changeChecked, editChecked};
+ghost use Rattle.rules.specs.Edits.{asked};
+ghost use Rattle.edit_checks.specs.Checked.{goes, comes, changeChecked, editChecked};
 
 fn refused(n: u32) -> Checked
-    ensures { λ r. ⌜ r ≡ record { refusal = refuse n; depth = 0 } ⌝ }
+    ensures { λ r. ⌜ r ≡ record { refusal = base.refuse n; depth = 0 } ⌝ }
 {
-    let refusal = replies::refuse(n);
+    let refusal = refuse(n);
     Checked {
         refusal: refusal,
         depth: 0,
@@ -27,16 +33,10 @@ fn refused(n: u32) -> Checked
 fn lengths_wrong(log: &[u8], pile: &[u8], table: &[u8], kind: u32, row: &[u8]) -> bool
     ensures { λ r. ⌜ r ≡ rule.editLengths (asked kind 0 0 (now (row .entry))) (now (log .entry)) (now (pile .entry)) (now (table .entry)) ⌝ }
 {
-    if log.len() != LOG_SIZE {
+    if record_lengths::lengths_wrong(log, pile, table) {
         return true;
     }
-    if pile.len() != PILE_SIZE {
-        return true;
-    }
-    if table.len() != TABLE_SIZE {
-        return true;
-    }
-    if !room::brings(kind) {
+    if !brings(kind) {
         return false;
     }
     row.len() != ROW_SIZE
@@ -46,10 +46,10 @@ fn lengths_wrong(log: &[u8], pile: &[u8], table: &[u8], kind: u32, row: &[u8]) -
 fn new_row_refusal(kind: u32, k: u32, row: &[u8]) -> Refusal
     ensures { λ r. ⌜ r ≡ rule.newRowCheck (asked kind k 0 (now (row .entry))) ⌝ }
 {
-    if !room::brings(kind) {
-        return replies::refuse(0);
+    if !brings(kind) {
+        return refuse(0);
     }
-    let f = row_ranges::row_field(rows::read_row(row, 0));
+    let f = record_row_ranges::row_field(read_row(row, 0));
     if 0 < f {
         return Refusal {
             number: 3,
@@ -57,17 +57,18 @@ fn new_row_refusal(kind: u32, k: u32, row: &[u8]) -> Refusal
             field: f,
         };
     }
-    replies::refuse(0)
+    refuse(0)
 }
 
 // The thickness that goes.
 fn gone(log: &[u8], kind: u32, k: u32) -> u64
-    requires { ⌜ 1 ≤ k ⌝ }
-    ensures { λ r. ⌜ r ≡ goes kind k (now (log .entry)) ⌝ }
+    requires { ⌜ 1 + countOf (now log) * rowSize ≤ length (now log) ⌝ }
+    requires { ⌜ ((kind ≡ 1) ⊎ (kind ≡ 3) → (1 ≤ k) × (k ≤ countOf (now log))) ⌝ }
+    ensures { λ r. ⌜ r ≡ goes kind k (rowsOf (now (log .entry))) ⌝ }
 {
     match kind {
         1 | 3 => {
-            let row = naming::named_row(log, k);
+            let row = named_row(log, k);
             row.thickness as u64
         }
         _ => 0,
@@ -78,22 +79,22 @@ fn gone(log: &[u8], kind: u32, k: u32) -> u64
 fn come(kind: u32, row: &[u8]) -> u64
     ensures { λ r. ⌜ (r ≡ comes kind (now (row .entry))) × (r < 65536) ⌝ }
 {
-    if !room::brings(kind) {
+    if !brings(kind) {
         return 0;
     }
-    let new = rows::read_row(row, 0);
+    let new = read_row(row, 0);
     new.thickness as u64
 }
 
 // Checks 13, 14, 3 and 4 of an edit of a log that passes. The new log's depth comes from the lent one's.
 fn check_change(log: &[u8], depth: u64, kind: u32, k: u32, x: u32, row: &[u8]) -> Checked
-    requires { ⌜ Passed (now log) depth × Brought kind (now row) ⌝ }
+    requires { ⌜ Passed (now log) × (depth ≡ depthOf (rowsOf (now log))) ⌝ }
     ensures { λ r. ⌜ r ≡ changeChecked (asked kind k x (now (row .entry))) (now (log .entry)) ⌝ }
 {
-    if !naming::stands(log, kind, k, x) {
+    if !edit_naming::stands(log, kind, k, x) {
         return refused(13);
     }
-    if room::full(log, kind) {
+    if edit_naming::full(log, kind) {
         return refused(14);
     }
     let new = new_row_refusal(kind, k, row);
@@ -107,7 +108,7 @@ fn check_change(log: &[u8], depth: u64, kind: u32, k: u32, x: u32, row: &[u8]) -
     if DEPTH_LIMIT < deep {
         return refused(4);
     }
-    let passed = replies::refuse(0);
+    let passed = refuse(0);
     Checked {
         refusal: passed,
         depth: deep,
@@ -129,7 +130,7 @@ pub fn check_edit(
     if lengths_wrong(log, pile, table, kind, row) {
         return refused(1);
     }
-    let lent = logs::check_log(log);
+    let lent = record_logs::check_content(log);
     let refusal = lent.refusal;
     if 0 < refusal.number {
         return lent;

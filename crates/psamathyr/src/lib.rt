@@ -7,15 +7,14 @@ ghost use mathlib.Core.Path.{_≡_};
 ghost use Rattle.rules.specs.Reading.{readLog, readPile, readSlice, packLogCheck, packedLog, packPileCheck, packedPile};
 ghost use Rattle.rules.specs.Answers.{refused};
 ghost use Rattle.rules.specs.Calculation.{calculated, tableAfter};
-ghost use Rattle.rules.specs.Edits.{editReply, editLog, editTable};
-ghost use Rattle.edited.specs.Asked.{asked};
+ghost use Rattle.rules.specs.Edits.{asked, editReply, editLog, editTable};
 
 #[no_mangle]
 pub extern "C" fn psamathyr_calculate(log: &[u8], pile: &[u8], table: &mut [u8]) -> Answer
     ensures reply { λ r. ⌜ r ≡ calculated (now (log .entry)) (now (pile .entry)) (now (table .entry)) ⌝ }
     ensures table { λ _. ⌜ now (table .exit) ≡ tableAfter (now (log .entry)) (now (pile .entry)) (now (table .entry)) ⌝ }
 {
-    calculation::calculate(log, pile, table)
+    answer_calculation::calculate(log, pile, table)
 }
 
 #[no_mangle]
@@ -32,14 +31,14 @@ pub extern "C" fn psamathyr_edit(
     ensures log { λ _. ⌜ now (log .exit) ≡ editLog (asked kind k x (now (row .entry))) (now (log .entry)) (now (pile .entry)) (now (table .entry)) ⌝ }
     ensures table { λ _. ⌜ now (table .exit) ≡ editTable (asked kind k x (now (row .entry))) (now (log .entry)) (now (pile .entry)) (now (table .entry)) ⌝ }
 {
-    edits::edit(log, pile, table, kind, k, x, row)
+    edit_reply::edit(log, pile, table, kind, k, x, row)
 }
 
 #[no_mangle]
 pub extern "C" fn psamathyr_read_log(log: &[u8]) -> LogRead
     ensures { λ r. ⌜ r ≡ readLog (now (log .entry)) ⌝ }
 {
-    logs::read_log(log)
+    record_logs::read_log(log)
 }
 
 // Looks at count and rows only.
@@ -49,14 +48,14 @@ pub extern "C" fn psamathyr_pack_log(fields: LogRead, log: &mut [u8]) -> Answer
     ensures log { λ _. ⌜ now (log .exit) ≡ packedLog (fields .log) (now (log .entry)) ⌝ }
 {
     let rows = fields.log;
-    replies::refused(packing::pack_log(rows, log))
+    base_replies::refused(record_packing::pack_log(rows, log))
 }
 
 #[no_mangle]
 pub extern "C" fn psamathyr_read_pile(pile: &[u8]) -> PileRead
     ensures { λ r. ⌜ r ≡ readPile (now (pile .entry)) ⌝ }
 {
-    piles::read_pile(pile)
+    record_piles::read_pile(pile)
 }
 
 // Looks at section to zero only.
@@ -66,12 +65,12 @@ pub extern "C" fn psamathyr_pack_pile(fields: PileRead, pile: &mut [u8]) -> Answ
     ensures pile { λ _. ⌜ now (pile .exit) ≡ packedPile (fields .pile) (now (pile .entry)) ⌝ }
 {
     let parts = fields.pile;
-    replies::refused(piles::pack_pile(parts, pile))
+    base_replies::refused(record_piles::pack_pile(parts, pile))
 }
 
 #[no_mangle]
 pub extern "C" fn psamathyr_read_slice(table: &[u8], place: u32) -> SliceRead
     ensures { λ r. ⌜ r ≡ readSlice (now (table .entry)) place ⌝ }
 {
-    slices::read_slice(table, place)
+    record_slices::read_slice(table, place)
 }

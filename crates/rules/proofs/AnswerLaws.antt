@@ -1,9 +1,9 @@
 -- The answer and the slices by rows are those by millimetres; only millimetres matter.
 use mathlib.Core.Path.{_≡_, refl, sym, _∙_, ap, ap₂}
 use mathlib.Core.Bool.{Bool, true, false, true≢false}
-use mathlib.Core.Logic.{_⊎_, inl, inr, ⊎-elim}
-use mathlib.Core.List.{List, [], _∷_}
-use Prim.Native.Nat.{ℕ, zero, suc, _+_, _-_, _<_, _≤_}
+use mathlib.Core.Logic.{⊎-elim}
+use mathlib.Core.List.{List, []}
+use Prim.Native.Nat.{ℕ, _+_, _-_, _<_, _≤_}
 use native.Mathlib.Omega.{arith}
 use lib.Dec.{ltb, leb}
 use borrow.Author.Tests.{ltb-false, leb-false}
@@ -16,13 +16,13 @@ use Rattle.rules.specs.declared.Refusal.{Refusal}
 use Rattle.rules.specs.Base.{pick, either, refuses, first, when}
 use Rattle.rules.specs.Checks.{pileChecks, depthOf}
 use Rattle.rules.specs.Ground.{soilAt, Agree}
-use Rattle.rules.specs.Pieces.{Piece, pieces, runTop}
+use Rattle.rules.specs.Pieces.{pieces, runTop}
 use Rattle.rules.specs.Numbers.{slicesOf, resistance, lineOf}
-use Rattle.rules.specs.Answers.{belowTip, depthsWrong, logShort, early, late, checksFrom, refused, numbers, answerFrom, slicesFrom, answer, slices}
+use Rattle.rules.specs.Answers.{belowTip, depthsWrong, logShort, early, checksFrom, refused, numbers, answerFrom, slicesFrom, answer, slices}
 use Rattle.rules.specs.Calculation.{answerOf, slicesOfRows}
-use Rattle.rules.specs.ByRows.{Positive, cuts, cutsOf, topAt, answerRows, slicesRows}
+use Rattle.rules.specs.ByRows.{Positive, cutsOf, topAt, answerRows, slicesRows}
 use Rattle.rules.proofs.Basics.{sure}
-use Rattle.rules.proofs.RefusalLaws.{first-left, first-off, when-off, either-left, either-right}
+use Rattle.rules.proofs.RefusalLaws.{first-off, when-off, either-left, either-right}
 use Rattle.rules.proofs.GroundLaws.{one-ground}
 use Rattle.rules.proofs.RowLaws.{by-rows}
 use Rattle.rules.proofs.SeatLaws.{top-is}

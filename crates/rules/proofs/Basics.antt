@@ -10,6 +10,7 @@ use borrow.Author.Tests.{ltb-true, ltb-false, eqb-true, eq-eqb}
 use Rattle.rules.specs.Base.{both}
 use Rattle.rules.specs.declared.Soil.{Soil}
 use Rattle.rules.specs.Ground.{same}
+use Rattle.rules.specs.Records.{rowSize}
 use Rattle.rules.specs.Packed.{rowsFrom}
 
 pub sure : (t : Bool) → (t ≡ true) ⊎ (t ≡ false)
@@ -52,4 +53,4 @@ same-of s t e = ap (λ (x : Soil). same s x) (sym e) ∙ same-refl s
 pub rows-length : (s : List ℕ) (at n : ℕ) → length (rowsFrom s at n) ≡ n
 unfolding rowsFrom
 rows-length s at zero = refl
-rows-length s at (suc n) = ap suc (rows-length s (at + 40) n)
+rows-length s at (suc n) = ap suc (rows-length s (at + rowSize) n)

@@ -1,5 +1,5 @@
 -- What every list of pieces is like: thicknesses add up, and each piece fits its fields.
-use mathlib.Core.Path.{_≡_, refl, sym, _∙_, ap}
+use mathlib.Core.Path.{_≡_, refl, _∙_, ap}
 use mathlib.Core.Bool.{Bool, true, false}
 use mathlib.Core.List.{List, [], _∷_}
 use Prim.Native.Nat.{ℕ, zero, suc, _+_, _-_, _<_, _≤_}
@@ -8,6 +8,7 @@ use lib.Dec.{eqb}
 use borrow.Author.Tests.{eqb-false}
 use Rattle.rules.specs.Base.{pick, either, neg}
 use Rattle.rules.specs.declared.Soil.{Soil}
+use Rattle.rules.specs.Limits.{sliceLimit}
 use Rattle.rules.specs.Ground.{same}
 use Rattle.rules.specs.Pieces.{Piece, piece, ends, walk, piecesFrom, pieces}
 use Rattle.rules.specs.declared.Pile.{Pile}
@@ -41,29 +42,29 @@ pub adds-up : (g : ℕ → Soil) (head tip : ℕ) → thickSum (pieces g head ti
 unfolding pieces
 adds-up g head tip = from-sum g head (tip - head)
 
--- each piece has 1 to 2000 mm and ends at e or above
+-- each piece has 1 to 2,000 mm and ends at e or above
 abbrev pub Fit : ℕ → List Piece → Type 0
 Fit e [] = Unit {0}
-Fit e (c ∷ cs) = (0 < c .thickness) × (c .thickness ≤ 2000) × (c .top + c .thickness ≤ e) × Fit e cs
+Fit e (c ∷ cs) = (0 < c .thickness) × (c .thickness ≤ sliceLimit) × (c .top + c .thickness ≤ e) × Fit e cs
 
 pick-fit : (t : Bool) (xs ys : List Piece) (e : ℕ) → Fit e xs → (t ≡ false → Fit e ys) → Fit e (pick t xs ys)
 pick-fit true xs ys e p q = p
 pick-fit false xs ys e p q = q refl
 
-not-full : (t : ℕ) (b : Bool) → t ≤ 2000 → either (eqb t 2000) b ≡ false → t < 2000
-not-full t b h e = let n : t ≡ 2000 → ⊥ = eqb-false t 2000 (left (eqb t 2000) b e) in omega (arith, n)
+not-full : (t : ℕ) (b : Bool) → t ≤ sliceLimit → either (eqb t sliceLimit) b ≡ false → t < sliceLimit
+not-full t b h e = let n : t ≡ sliceLimit → ⊥ = eqb-false t sliceLimit (left (eqb t sliceLimit) b e) in omega (arith, n)
   where
     left : (a b : Bool) → either a b ≡ false → a ≡ false
     left true b e = e
     left false b e = refl
 
-walk-fit : (g : ℕ → Soil) (n a t : ℕ) (s : Soil) (e : ℕ) → 0 < t → t ≤ 2000 → a + t + n ≡ e → Fit e (walk g n a t s)
+walk-fit : (g : ℕ → Soil) (n a t : ℕ) (s : Soil) (e : ℕ) → 0 < t → t ≤ sliceLimit → a + t + n ≡ e → Fit e (walk g n a t s)
 unfolding walk
 walk-fit g zero a t s e p h q = (p, h, omega arith, tt)
 walk-fit g (suc n) a t s e p h q =
     pick-fit (ends t s (g (a + t))) _ _ e
     (p, h, omega arith, walk-fit g n (a + t) 1 (g (a + t)) e (omega arith) (omega arith) (omega arith))
-    (λ x. let l : t < 2000 = not-full t (neg (same s (g (a + t)))) h x in walk-fit g n a (t + 1) s e (omega arith) (omega arith) (omega arith))
+    (λ x. let l : t < sliceLimit = not-full t (neg (same s (g (a + t)))) h x in walk-fit g n a (t + 1) s e (omega arith) (omega arith) (omega arith))
 
 pub all-fit : (g : ℕ → Soil) (a n : ℕ) → Fit (a + n) (piecesFrom g a n)
 unfolding piecesFrom

@@ -2,23 +2,24 @@
 use mathlib.Core.Path.{_≡_, refl, sym, _∙_, ap, ap₂}
 use mathlib.Core.Bool.{Bool, true, false}
 use mathlib.Core.List.{List, [], _∷_, map, _++_}
-use Prim.Native.Nat.{ℕ, zero, suc, _<_}
+use Prim.Native.Nat.{ℕ}
 use lib.Dec.{ltb, T, ltb→lt}
-use lib.ListN.{take, drop}
+use lib.ListN.{take, replicate}
 use Rattle.rules.specs.declared.Row.{Row}
 use Rattle.rules.specs.declared.Pile.{Pile}
 use Rattle.rules.specs.declared.Slice.{Slice}
 use Rattle.rules.specs.declared.Answer.{Answer}
 use Rattle.rules.specs.Base.{pick, both, refuses, when, first, allZero}
-use Rattle.rules.specs.Limits.{sliceSize, logSize}
-use Rattle.rules.specs.Packed.{bitsAt, rowsFrom, rowsOf, pileOf, rowBytes, pileBytes, sliceBytes, placesBytes, logBytes, slicesBytes, tableBytes}
-use Rattle.rules.specs.Checks.{unusedWrong, wrongField, firstWrong, depthOf, fieldChecks, logChecks, wrongPart, sectionCheck, pileChecks}
+use Rattle.rules.specs.Records.{sliceSize}
+use Rattle.rules.specs.Limits.{tableSize, limitOf}
+use Rattle.rules.specs.Packed.{numberAt, rowsFrom, rowsOf, pileOf, rowBytes, pileBytes, sliceBytes, placesBytes, logFor, slicesBytes, tableBytes}
+use Rattle.rules.specs.Checks.{unusedWrong, wrongField, firstWrong, depthOf, fieldChecks, contentChecks, wrongPart, sectionCheck, pileChecks}
 use Rattle.rules.specs.Ground.{same, soilAt}
 use Rattle.rules.specs.Tables.{rowFor, placeOf, weighed, frictionAt, dashAt, tipAt}
 use Rattle.rules.specs.Numbers.{friction, factor, sliceOf, slicesOf, total, tipRead, resistance, tipForce, shaftForce, capacityOf, upliftOf}
 use Rattle.rules.specs.Answers.{early, late, checksFrom, refused, numbers, answerFrom, slicesFrom}
-use Rattle.rules.specs.Calculation.{answerOf, slicesOfRows, freshAnswer, freshTable, lentChecks, calculated, tableAfter}
-use Rattle.rules.specs.Sheet.{digitsFrom, spaced, answerLine, sliceLine, sliceLines, totalLine, sheetOf, sheetText}
+use Rattle.rules.specs.Calculation.{slicesOfRows, freshAnswer, freshTable, lentChecks, calculated, tableAfter}
+use Rattle.rules.specs.Sheet.{digitsFrom, spaced, answerLine, sliceLine, sliceLines, totalLine, sheetOf, inputLimit, inputLog, inputPile, sheetText}
 use Rattle.rules.specs.ByRows.{Positive, lead, extent, cuts, topFrom, answerRows, slicesRows}
 use Rattle.rules.specs.Cases.{Shown, five, kPa, only, bars, logHex, pileHex, firstSlice, sheet, Case, joined, logIn, blankTable, resistanceIn, fiveOf, barOf, worked, work, print, cases}
 use Rattle.rules.proofs.AnswerLaws.{answer-by-rows, slices-by-rows}
@@ -44,7 +45,7 @@ abbrev calculatedRows : List ℕ → List ℕ → List ℕ → Answer
 calculatedRows log pile table = let r = lentChecks log pile table in pick (refuses r) (refused r) (answerRows (rowsOf log) (pileOf pile))
 
 abbrev tableRows : List ℕ → List ℕ → List ℕ → List ℕ
-tableRows log pile table = pick (refuses (lentChecks log pile table)) table (tableBytes (slicesRows (rowsOf log) (pileOf pile)))
+tableRows log pile table = pick (refuses (lentChecks log pile table)) table (tableBytes (tableSize (limitOf log)) (slicesRows (rowsOf log) (pileOf pile)))
 
 module _ (log pile table : List ℕ) (w : Positive (rowsOf log)) where
   calculated-rows : calculated log pile table ≡ calculatedRows log pile table
@@ -53,17 +54,21 @@ module _ (log pile table : List ℕ) (w : Positive (rowsOf log)) where
 
   table-rows : tableAfter log pile table ≡ tableRows log pile table
   unfolding tableAfter freshTable
-  table-rows = ap (λ (l : List Slice). pick (refuses (lentChecks log pile table)) table (tableBytes l)) (sym (slices-by-rows (rowsOf log) (pileOf pile) w))
+  table-rows = ap (λ (l : List Slice). pick (refuses (lentChecks log pile table)) table (tableBytes (tableSize (limitOf log)) l)) (sym (slices-by-rows (rowsOf log) (pileOf pile) w))
 
   slices-rows : slicesOfRows (rowsOf log) (pileOf pile) ≡ slicesRows (rowsOf log) (pileOf pile)
   slices-rows = sym (slices-by-rows (rowsOf log) (pileOf pile) w)
 
 abbrev sheetRows : List ℕ → List ℕ
-sheetRows input = sheetOf (calculatedRows (take logSize input) (drop logSize input) blankTable) (slicesRows (rowsOf (take logSize input)) (pileOf (drop logSize input)))
+sheetRows input = let n = inputLimit input in sheetOf (calculatedRows (inputLog n input) (inputPile n input) (replicate (tableSize n) 0)) (slicesRows (rowsOf (inputLog n input)) (pileOf (inputPile n input)))
 
-sheet-rows : (input : List ℕ) → Positive (rowsOf (take logSize input)) → sheetText input ≡ sheetRows input
+sheet-rows : (input : List ℕ) → Positive (rowsOf (inputLog (inputLimit input) input)) → sheetText input ≡ sheetRows input
 unfolding sheetText
-sheet-rows input w = ap₂ sheetOf (calculated-rows (take logSize input) (drop logSize input) blankTable w) (slices-rows (take logSize input) (drop logSize input) blankTable w)
+sheet-rows input w = let n = inputLimit input in ap₂ sheetOf (calculated-rows (inputLog n input) (inputPile n input) (replicate (tableSize n) 0) w) (slices-rows (inputLog n input) (inputPile n input) blankTable w)
+
+-- the log of a sheet's input
+abbrev given : List Row → Pile → List ℕ
+given rs p = inputLog (inputLimit (logIn rs ++ pileBytes p)) (logIn rs ++ pileBytes p)
 
 abbrev rowed : Shown → List Row → Pile → List ℕ
 rowed (five l t s c u) rs p = fiveOf (calculatedRows (logIn rs) (pileBytes p) blankTable)
@@ -75,7 +80,7 @@ rowed (pileHex l) rs p = pileBytes p
 rowed (firstSlice l) rs p = take sliceSize (tableRows (logIn rs) (pileBytes p) blankTable)
 rowed (sheet l) rs p = sheetRows (logIn rs ++ pileBytes p)
 
-row-work : (s : Shown) (rs : List Row) (p : Pile) → Positive (rowsOf (logIn rs)) → Positive (rowsOf (take logSize (logIn rs ++ pileBytes p))) → worked s rs p ≡ rowed s rs p
+row-work : (s : Shown) (rs : List Row) (p : Pile) → Positive (rowsOf (logIn rs)) → Positive (rowsOf (given rs p)) → worked s rs p ≡ rowed s rs p
 row-work (five l t s c u) rs p w v = ap fiveOf (calculated-rows (logIn rs) (pileBytes p) blankTable w)
 row-work (kPa r) rs p w v = ap (λ (a : Answer). a .refusal .number ∷ resistanceIn rs p ∷ []) (calculated-rows (logIn rs) (pileBytes p) blankTable w)
 row-work (only n) rs p w v = ap (λ (a : Answer). a .refusal .number ∷ []) (calculated-rows (logIn rs) (pileBytes p) blankTable w)
@@ -88,7 +93,7 @@ row-work (sheet l) rs p w v = sheet-rows (logIn rs ++ pileBytes p) v
 
 abbrev ready : List Case → Bool
 ready [] = true
-ready (c ∷ cs) = both (both (positive (rowsOf (logIn (c .rows)))) (positive (rowsOf (take logSize (logIn (c .rows) ++ pileBytes (c .pile)))))) (ready cs)
+ready (c ∷ cs) = both (both (positive (rowsOf (logIn (c .rows)))) (positive (rowsOf (given (c .rows) (c .pile))))) (ready cs)
 
 abbrev rowWork : Case → List ℕ
 rowWork c = rowed (c .shown) (c .rows) (c .pile)
@@ -97,18 +102,18 @@ all-rows : (cs : List Case) → T (ready cs) → map work cs ≡ map rowWork cs
 all-rows [] t = refl
 all-rows (c ∷ cs) t =
     let a : List Row = rowsOf (logIn (c .rows)) in
-    let b : List Row = rowsOf (take logSize (logIn (c .rows) ++ pileBytes (c .pile))) in
+    let b : List Row = rowsOf (given (c .rows) (c .pile)) in
     let h : T (both (positive a) (positive b)) = both-left (both (positive a) (positive b)) (ready cs) t in
     ap₂ (λ (x : List ℕ) (xs : List (List ℕ)). x ∷ xs)
     (row-work (c .shown) (c .rows) (c .pile) (are-positive a (both-left (positive a) (positive b) h)) (are-positive b (both-right (positive a) (positive b) h)))
     (all-rows cs (both-right (both (positive a) (positive b)) (ready cs) t))
 
 all-ready : T (ready cases)
-unfolding bitsAt rowsFrom rowsOf rowBytes placesBytes logBytes pileBytes
+unfolding inputLimit numberAt rowsFrom rowsOf rowBytes placesBytes logFor pileBytes
 all-ready = tt
 
 by-computing : map rowWork cases ≡ map print cases
-unfolding when first allZero bitsAt rowsFrom rowsOf pileOf rowBytes pileBytes sliceBytes placesBytes logBytes slicesBytes tableBytes unusedWrong wrongField firstWrong depthOf fieldChecks logChecks wrongPart sectionCheck pileChecks same soilAt rowFor placeOf weighed frictionAt dashAt tipAt friction factor sliceOf slicesOf total tipRead resistance tipForce shaftForce capacityOf upliftOf early late checksFrom numbers answerFrom slicesFrom lentChecks digitsFrom spaced answerLine sliceLine sliceLines totalLine sheetOf lead extent cuts topFrom answerRows slicesRows
+unfolding limitOf inputLimit when first allZero numberAt rowsFrom rowsOf pileOf rowBytes pileBytes sliceBytes placesBytes logFor slicesBytes tableBytes unusedWrong wrongField firstWrong depthOf fieldChecks contentChecks wrongPart sectionCheck pileChecks same soilAt rowFor placeOf weighed frictionAt dashAt tipAt friction factor sliceOf slicesOf total tipRead resistance tipForce shaftForce capacityOf upliftOf early late checksFrom numbers answerFrom slicesFrom lentChecks digitsFrom spaced answerLine sliceLine sliceLines totalLine sheetOf lead extent cuts topFrom answerRows slicesRows
 by-computing = refl
 
 -- Every number that document 01 prints for its cases A to L is what the definitions give.

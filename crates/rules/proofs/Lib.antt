@@ -1,13 +1,21 @@
 -- Laws of the definitions.
 pub mod Basics
+pub mod WidthLaws
 pub mod RefusalLaws
+pub mod FormLaws
+pub mod PlacesLaws
+pub mod RangeLaws
+pub mod PassedLaws
 pub mod GroundLaws
+pub mod SpliceLaws
 pub mod PieceLaws
 pub mod FitLaws
+pub mod RoomLaws
 pub mod RowLaws
 pub mod SeatLaws
 pub mod TableLaws
 pub mod AnswerLaws
+pub mod EditLaws
 pub mod RunLaws
 pub mod Replies
 pub mod Known

@@ -1,15 +1,13 @@
 -- The walk over millimetres, a piece at a time.
-use mathlib.Core.Path.{_≡_, refl, sym, _∙_, ap}
-use mathlib.Core.Bool.{Bool, true, false}
-use mathlib.Core.Logic.{_⊎_, inl, inr, ⊎-elim}
-use mathlib.Core.List.{List, [], _∷_}
+use mathlib.Core.Path.{_≡_, sym, _∙_, ap}
+use mathlib.Core.Bool.{true, false}
+use mathlib.Core.Logic.{⊎-elim}
+use mathlib.Core.List.{_∷_}
 use Prim.Native.Nat.{ℕ, zero, suc, _+_, _-_, _<_, _≤_}
 use native.Mathlib.Omega.{arith}
-use borrow.Author.Tests.{eq-eqb, ne-eqb}
-use Rattle.rules.specs.Base.{pick, either, neg}
+use borrow.Author.Tests.{ne-eqb}
 use Rattle.rules.specs.declared.Soil.{Soil}
-use Rattle.rules.specs.Ground.{same}
-use Rattle.rules.specs.Pieces.{Piece, piece, ends, walk, piecesFrom}
+use Rattle.rules.specs.Pieces.{piece, ends, walk, piecesFrom}
 use Rattle.rules.proofs.Basics.{split, same-of}
 
 -- an open piece goes on over its own soil

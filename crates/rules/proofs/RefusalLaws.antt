@@ -1,12 +1,15 @@
 -- Laws of a first refusal, and of the tests that it is made of.
 use mathlib.Core.Path.{_≡_, refl, sym, _∙_, ap}
 use mathlib.Core.Bool.{Bool, true, false, true≢false}
+use mathlib.Core.List.{List}
 use Prim.Native.Nat.{ℕ, suc, _≤_}
-use lib.Dec.{ltb}
+use lib.Dec.{ltb, eqb}
+use lib.ListN.{length}
 use native.Mathlib.Omega.{arith}
-use borrow.Author.Tests.{lt-ltb, ltb-false}
+use borrow.Author.Tests.{lt-ltb, le-ltb, ltb-false, eqb-true}
 use Rattle.rules.specs.declared.Refusal.{Refusal}
 use Rattle.rules.specs.Base.{pick, either, neg, within, refuse, nothing, when, refuses, first}
+use Rattle.rules.specs.Checks.{longOther}
 
 pub first-left : (a b : Refusal) → refuses a ≡ true → first a b ≡ a
 unfolding first
@@ -50,6 +53,10 @@ pub either-right : (a b : Bool) → either a b ≡ false → b ≡ false
 either-right true b e = absurd (true≢false e)
 either-right false b e = e
 
+pub neg-false : (t : Bool) → neg t ≡ false → t ≡ true
+neg-false true h = refl
+neg-false false h = cc
+
 pub neg-true : (t : Bool) → neg t ≡ true → t ≡ false
 neg-true true e = sym e
 neg-true false e = refl
@@ -59,6 +66,13 @@ within-low low high n e = ltb-false n low (either-left (ltb n low) (ltb high n) 
 
 pub within-high : (low high n : ℕ) → within low high n ≡ true → n ≤ high
 within-high low high n e = ltb-false high n (either-right (ltb n low) (ltb high n) (neg-true _ e))
+
+pub within-true : (low high n : ℕ) → low ≤ n → n ≤ high → within low high n ≡ true
+within-true low high n h k = rw (le-ltb n low h, le-ltb high n k)
+
+-- a piece of the right length
+pub right-long : (n : ℕ) (s : List ℕ) → longOther n s ≡ false → length s ≡ n
+right-long n s h = eqb-true (length s) n (neg-false (eqb (length s) n) h)
 
 -- a field number that is 0 was not picked
 pub none-picked : (t : Bool) (n k : ℕ) → pick t n (suc k) ≡ 0 → (t ≡ true) × (n ≡ 0)

@@ -1,21 +1,27 @@
 -- After any run of edits the held answer and the table are those worked out afresh from the ground; a refused edit changes nothing.
-use mathlib.Core.Path.{_≡_, refl, sym, _∙_, ap, ap₂, subst}
+use mathlib.Core.Path.{_≡_, refl, sym, _∙_, ap₂, subst}
 use mathlib.Core.Bool.{Bool, true, false}
-use mathlib.Core.List.{List, [], _∷_, _++_}
-use Prim.Native.Nat.{ℕ}
+use mathlib.Core.List.{List, [], _∷_}
+use Prim.Native.Nat.{ℕ, _<_}
+use native.Mathlib.Omega.{arith}
+use borrow.Author.Tests.{eqb-false}
 use Rattle.rules.specs.declared.Answer.{Answer}
 use Rattle.rules.specs.declared.Slice.{Slice}
 use Rattle.rules.specs.declared.Refusal.{Refusal}
 use Rattle.rules.specs.declared.Soil.{Soil}
 use Rattle.rules.specs.declared.Pile.{Pile}
-use Rattle.rules.specs.Base.{pick, refuses}
+use Rattle.rules.specs.Base.{pick, refuses, when}
+use Rattle.rules.specs.Limits.{tableSize, limitOf}
+use Rattle.rules.specs.Checks.{formless, contentChecks}
 use Rattle.rules.specs.Packed.{rowsOf, pileOf, tableBytes}
 use Rattle.rules.specs.Ground.{Agree}
 use Rattle.rules.specs.Numbers.{resistance, lineOf}
 use Rattle.rules.specs.Answers.{refused, checksFrom, numbers, answerFrom, answer}
-use Rattle.rules.specs.Calculation.{answerOf, slicesOfRows, freshAnswer, freshTable, lentChecks, calculated, tableAfter}
-use Rattle.rules.specs.Edits.{Edit, editChecks, editedLog, editAnswer, editReply, editLog, editTable, withKept}
+use Rattle.rules.specs.Calculation.{answerOf, freshAnswer, freshTable, lengthsWrong, lentChecks, calculated, tableAfter}
+use Rattle.rules.specs.Edits.{editChecks, editedLog, editAnswer, editReply, editLog, editTable, withKept}
 use Rattle.rules.specs.Runs.{Call, Held, never, by, Desk, step, run}
+use Rattle.rules.proofs.RefusalLaws.{first-off, when-off, either-left}
+use Rattle.rules.proofs.FormLaws.{one-form}
 use Rattle.rules.proofs.AnswerLaws.{only-millimetres}
 
 -- a worked answer keeps nothing by itself
@@ -77,11 +83,20 @@ pub refused-still : (c : Call) (d : Desk) → refuses (editChecks (c .edit) (d .
 unfolding step editLog editTable
 refused-still c d h = rw h
 
--- Two logs that pass the log checks, are equally deep and agree at every millimetre get equal answers and equal tables with the same
--- pile record, when no lent piece has the wrong length.
-pub however-typed : (log log′ pile table : List ℕ) → refuses (lentChecks log pile table) ≡ false → refuses (lentChecks log′ pile table) ≡ false → Agree (rowsOf log) (rowsOf log′)
-    → (calculated log pile table ≡ calculated log′ pile table) × (tableAfter log pile table ≡ tableAfter log′ pile table)
+-- a log that is lent with pieces of the right length has a form
+has-form : (log pile table : List ℕ) → refuses (lentChecks log pile table) ≡ false → 0 < limitOf log
+unfolding lentChecks
+has-form log pile table h =
+    let a = when-off 0 (lengthsWrong log pile table) (first-off (when (lengthsWrong log pile table) 1) (contentChecks log) h .0) in
+    let n : limitOf log ≡ 0 → ⊥ = eqb-false (limitOf log) 0 (either-left (formless log) _ a) in
+    omega (arith, n)
+
+-- Two logs that checks 1 to 4 let pass with the same pile record, that are equally deep and agree at every millimetre, get equal answers and
+-- equal tables, whatever the tables held.
+pub however-typed : (a b pile t u : List ℕ) → refuses (lentChecks a pile t) ≡ false → refuses (lentChecks b pile u) ≡ false → Agree (rowsOf a) (rowsOf b)
+    → (calculated a pile t ≡ calculated b pile u) × (tableAfter a pile t ≡ tableAfter b pile u)
 unfolding calculated tableAfter freshAnswer freshTable
-however-typed log log′ pile table h k g =
-    let e = only-millimetres (rowsOf log) (rowsOf log′) (pileOf pile) g in
-    (rw (h, k) (e .0), rw (h, k) (ap tableBytes (e .1)))
+however-typed a b pile t u h k g =
+    let e = only-millimetres (rowsOf a) (rowsOf b) (pileOf pile) g in
+    let f : limitOf a ≡ limitOf b = one-form a (has-form a pile t h) ∙ sym (one-form b (has-form b pile u k)) in
+    (rw (h, k) (e .0), rw (h, k) (ap₂ (λ (n : ℕ) (cs : List Slice). tableBytes (tableSize n) cs) f (e .1)))

@@ -10,14 +10,14 @@ use Rattle.rules.specs.declared.Pile.{Pile}
 use Rattle.rules.specs.declared.Slice.{Slice}
 use Rattle.rules.specs.declared.Answer.{Answer}
 use Rattle.rules.specs.Base.{pick, either, nothing, refuses, when, first}
-use Rattle.rules.specs.Limits.{placeLimit}
+use Rattle.rules.specs.Limits.{placeLimit, tipLimit}
 use Rattle.rules.specs.Checks.{pileChecks}
 use Rattle.rules.specs.Pieces.{pieces, runTop}
 use Rattle.rules.specs.Numbers.{sand, slicesOf, lineOf, tipOf, tipRead, isDash, resistance, tipForce, shaftForce, capacityOf, upliftOf}
 
 -- 7: "head not above tip, or tip under 3,000 or over 40,000"
 abbrev pub depthsWrong : Pile → Bool
-depthsWrong p = either (leb (p .tip) (p .head)) (either (ltb (p .tip) 3000) (ltb 40000 (p .tip)))
+depthsWrong p = either (leb (p .tip) (p .head)) (either (ltb (p .tip) 3000) (ltb tipLimit (p .tip)))
 
 -- 8: "log ends less than 5,000 below the tip"
 abbrev pub logShort : ℕ → Pile → Bool
@@ -44,7 +44,7 @@ unfoldable pub late : Soil → ℕ → Pile → Refusal
 late at top p =
     first (when (sand at) 9) (first (when (seatShort top p) 10) (first (when (tooSoft at) 11) (when (isDash (tipRead (tipOf p) (at .index))) 12)))
 
--- 15: "shaft needs more than 83 slices"
+-- 15: "shaft needs more than 83 slices": the places of the longest form
 abbrev pub tooMany : ℕ → Bool
 tooMany n = ltb placeLimit n
 

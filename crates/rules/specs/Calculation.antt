@@ -8,9 +8,10 @@ use Rattle.rules.specs.declared.Row.{Row}
 use Rattle.rules.specs.declared.Slice.{Slice}
 use Rattle.rules.specs.declared.Answer.{Answer}
 use Rattle.rules.specs.Base.{pick, either, refuses, when, first}
-use Rattle.rules.specs.Limits.{logSize, pileSize, tableSize}
+use Rattle.rules.specs.Records.{pileSize}
+use Rattle.rules.specs.Limits.{limitOf, tableSize}
 use Rattle.rules.specs.Packed.{rowsOf, pileOf, tableBytes}
-use Rattle.rules.specs.Checks.{longOther, logChecks, depthOf}
+use Rattle.rules.specs.Checks.{longOther, formless, contentChecks, depthOf}
 use Rattle.rules.specs.Ground.{soilAt}
 use Rattle.rules.specs.Answers.{refused, answer, slices}
 
@@ -26,15 +27,15 @@ unfoldable pub freshAnswer : List ℕ → List ℕ → Answer
 freshAnswer log pile = answerOf (rowsOf log) (pileOf pile)
 
 unfoldable pub freshTable : List ℕ → List ℕ → List ℕ
-freshTable log pile = tableBytes (slicesOfRows (rowsOf log) (pileOf pile))
+freshTable log pile = tableBytes (tableSize (limitOf log)) (slicesOfRows (rowsOf log) (pileOf pile))
 
--- "1 looks at every lent piece that the call uses"
+-- 1: the log has the length of a form, the pile record its own, the table the length that goes with that form
 abbrev pub lengthsWrong : List ℕ → List ℕ → List ℕ → Bool
-lengthsWrong log pile table = either (longOther logSize log) (either (longOther pileSize pile) (longOther tableSize table))
+lengthsWrong log pile table = either (formless log) (either (longOther pileSize pile) (longOther (tableSize (limitOf log)) table))
 
--- "Checks 1 to 4 are the log checks"
+-- "Checks 1 to 4 are the log checks; 1 looks at every lent piece that the call uses."
 unfoldable pub lentChecks : List ℕ → List ℕ → List ℕ → Refusal
-lentChecks log pile table = first (when (lengthsWrong log pile table) 1) (logChecks log)
+lentChecks log pile table = first (when (lengthsWrong log pile table) 1) (contentChecks log)
 
 unfoldable pub calculated : List ℕ → List ℕ → List ℕ → Answer
 calculated log pile table =

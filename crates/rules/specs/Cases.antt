@@ -1,13 +1,14 @@
 -- Cases A to L of document 01, "The sheet program and known numbers", and two that its traps ask for: what is right, and what the definitions give.
 use mathlib.Core.List.{List, [], _∷_, _++_, map}
-use Prim.Native.Nat.{ℕ, _+_, _*_, _-_}
-use lib.ListN.{length, take, replicate}
+use Prim.Native.Nat.{ℕ, _*_}
+use lib.ListN.{take, replicate}
 use Rattle.rules.specs.declared.Row.{Row}
 use Rattle.rules.specs.declared.Pile.{Pile}
 use Rattle.rules.specs.declared.Slice.{Slice}
 use Rattle.rules.specs.declared.Answer.{Answer}
-use Rattle.rules.specs.Limits.{sliceSize, tableSize}
-use Rattle.rules.specs.Packed.{rowsOf, pileOf, logBytes, pileBytes}
+use Rattle.rules.specs.Records.{sliceSize}
+use Rattle.rules.specs.Limits.{rowLimit, tableSize}
+use Rattle.rules.specs.Packed.{rowsOf, pileOf, logFor, pileBytes}
 use Rattle.rules.specs.Ground.{soilAt}
 use Rattle.rules.specs.Numbers.{resistance}
 use Rattle.rules.specs.Answers.{belowTip}
@@ -52,10 +53,10 @@ printed (sheet l) = l
 
 -- the packed bytes of a case, and a table to fill
 abbrev pub logIn : List Row → List ℕ
-logIn rs = logBytes (record { count = length rs; rows = rs })
+logIn rs = logFor rowLimit rs
 
 abbrev pub blankTable : List ℕ
-blankTable = replicate tableSize 0
+blankTable = replicate (tableSize rowLimit) 0
 
 abbrev pub answerIn : List Row → Pile → Answer
 answerIn rs p = calculated (logIn rs) (pileBytes p) blankTable

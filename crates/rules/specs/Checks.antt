@@ -1,5 +1,6 @@
 -- Checks 1 to 6: lengths, the log, and the pile record by itself.
-use mathlib.Core.Bool.{Bool}
+use mathlib.Core.Path.{_≡_}
+use mathlib.Core.Bool.{Bool, false}
 use mathlib.Core.List.{List, [], _∷_}
 use Prim.Native.Nat.{ℕ, _+_, _*_}
 use lib.Dec.{ltb, leb, eqb}
@@ -7,20 +8,25 @@ use lib.ListN.{length, drop}
 use Rattle.rules.specs.declared.Refusal.{Refusal}
 use Rattle.rules.specs.declared.Row.{Row}
 use Rattle.rules.specs.declared.Pile.{Pile}
-use Rattle.rules.specs.Base.{pick, either, neg, within, nothing, when, first, allZero}
-use Rattle.rules.specs.Limits.{rowLimit, rowSize, depthLimit}
+use Rattle.rules.specs.Base.{pick, either, neg, within, nothing, refuses, when, first, allZero}
+use Rattle.rules.specs.Records.{rowSize}
+use Rattle.rules.specs.Limits.{limitOf, depthLimit}
 use Rattle.rules.specs.Packed.{countOf, rowsOf}
 
 -- 1: "a lent piece has the wrong length"
 abbrev pub longOther : ℕ → List ℕ → Bool
 longOther n s = neg (eqb (length s) n)
 
+-- 1 of a log: no form has its length (it is not 321 bytes long)
+abbrev pub formless : List ℕ → Bool
+formless log = eqb (limitOf log) 0
+
 -- 2: "count 0 or over 64, or an unused row place not zero"
-abbrev pub countWrong : ℕ → Bool
-countWrong n = either (eqb n 0) (ltb rowLimit n)
+abbrev pub countWrong : ℕ → ℕ → Bool
+countWrong limit n = either (eqb n 0) (ltb limit n)
 
 unfoldable pub unusedWrong : List ℕ → Bool
-unusedWrong s = let blank = allZero (drop (1 + countOf s * rowSize) s) in either (countWrong (countOf s)) (neg blank)
+unusedWrong s = let blank = allZero (drop (1 + countOf s * rowSize) s) in either (countWrong (limitOf s) (countOf s)) (neg blank)
 
 -- "kind: 1 coarse or medium sand, 2 fine sand, 3 silty sand, 4 sandy loam, 5 loam, 6 clay"
 -- "Kinds 4 to 6: 0 to 200. Kinds 1 to 3: exactly 100"
@@ -49,12 +55,20 @@ unfoldable pub depthOf : List Row → ℕ
 depthOf [] = 0
 depthOf (r ∷ rs) = r .thickness + depthOf rs
 
--- checks 2 and 3, and 2 to 4, of a log of the right length
+-- checks 2 and 3, and 2 to 4, of a log of the right length (of another they mean nothing: 1 has refused it)
 unfoldable pub fieldChecks : List ℕ → Refusal
 fieldChecks s = first (when (unusedWrong s) 2) (firstWrong 1 (rowsOf s))
 
+unfoldable pub contentChecks : List ℕ → Refusal
+contentChecks s = first (fieldChecks s) (when (ltb depthLimit (depthOf (rowsOf s))) 4)
+
+-- "Checks 1 to 4 are the log checks": of a log by itself
 unfoldable pub logChecks : List ℕ → Refusal
-logChecks s = first (fieldChecks s) (when (ltb depthLimit (depthOf (rowsOf s))) 4)
+logChecks s = first (when (formless s) 1) (contentChecks s)
+
+-- a log past its checks
+abbrev pub Passed : List ℕ → Type 0
+Passed s = refuses (logChecks s) ≡ false
 
 -- "Circle: a is the diameter, 150 to 2,000, and b is 0. Rectangle: each side 300 to 4,000."
 abbrev pub aRight : Pile → Bool

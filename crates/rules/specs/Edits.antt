@@ -1,16 +1,17 @@
 -- The four edits on a lent log: their refusals in order, the log and table they leave, and kept.
 use mathlib.Core.Bool.{Bool, true, false}
 use mathlib.Core.List.{List, [], _∷_, _++_}
-use Prim.Native.Nat.{ℕ, zero, suc, _+_, _*_, _-_}
+use Prim.Native.Nat.{ℕ, zero, suc, _+_, _-_}
 use lib.Dec.{ltb, leb, eqb}
-use lib.ListN.{length, take, drop, replicate}
+use lib.ListN.{length, getD, take, drop}
 use Rattle.rules.specs.declared.Refusal.{Refusal}
 use Rattle.rules.specs.declared.Row.{Row}
 use Rattle.rules.specs.declared.Answer.{Answer}
 use Rattle.rules.specs.Base.{pick, both, either, neg, within, nothing, refuses, when, first}
-use Rattle.rules.specs.Limits.{rowLimit, rowSize, sliceSize, depthLimit}
-use Rattle.rules.specs.Packed.{rowAt, rowsOf, countOf, rowBytes, pileOf}
-use Rattle.rules.specs.Checks.{longOther, wrongField, depthOf, logChecks}
+use Rattle.rules.specs.Records.{rowSize, sliceSize}
+use Rattle.rules.specs.Limits.{limitOf, depthLimit}
+use Rattle.rules.specs.Packed.{rowAt, rowsOf, noRow, logFor, pileOf}
+use Rattle.rules.specs.Checks.{longOther, wrongField, depthOf, contentChecks}
 use Rattle.rules.specs.Calculation.{lengthsWrong, freshAnswer, freshTable, slicesOfRows}
 use Rattle.rules.specs.Answers.{refused}
 
@@ -21,6 +22,9 @@ pub record Edit : Type 0 where
   pub x : ℕ
   pub row : List ℕ
 
+abbrev pub asked : ℕ → ℕ → ℕ → List ℕ → Edit
+asked kind k x row = record { kind = kind; k = k; x = x; row = row }
+
 -- "Replace and insert bring the new row as its five packed bytes"
 abbrev pub brings : ℕ → Bool
 brings kind = within 1 2 kind
@@ -29,12 +33,9 @@ brings kind = within 1 2 kind
 abbrev pub grows : ℕ → Bool
 grows kind = either (eqb kind 2) (eqb kind 4)
 
--- where row k begins: its first byte, and its first bit
-abbrev pub placeByte : ℕ → ℕ
-placeByte k = 1 + (k - 1) * rowSize
-
-abbrev pub rowNamed : List ℕ → ℕ → Row
-rowNamed log k = rowAt log (8 + (k - 1) * 40)
+-- row k of the rows, counted from 1 (k = 0 reads as 1, past the last a row of zeros: 13 looks first)
+abbrev pub rowNamed : List Row → ℕ → Row
+rowNamed rs k = getD rs (k - 1) noRow
 
 -- 1 for every piece that the edit's kind uses: "what an edit's kind doesn't use is not looked at"
 abbrev pub editLengths : Edit → List ℕ → List ℕ → List ℕ → Bool
@@ -44,53 +45,40 @@ editLengths e log pile table = either (lengthsWrong log pile table) (both (bring
 abbrev pub names : ℕ → ℕ → Bool
 names k n = within 1 n k
 
-unfoldable pub stands : Edit → List ℕ → Bool
-stands e log =
-    pick (eqb (e .kind) 1) (names (e .k) (countOf log))
-    (pick (eqb (e .kind) 2) (names (e .k) (countOf log + 1))
-    (pick (eqb (e .kind) 3) (both (names (e .k) (countOf log)) (ltb 1 (countOf log)))
-    (pick (eqb (e .kind) 4) (both (names (e .k) (countOf log)) (both (leb 1 (e .x)) (ltb (e .x) (rowNamed log (e .k) .thickness))))
+unfoldable pub stands : Edit → List Row → Bool
+stands e rs =
+    pick (eqb (e .kind) 1) (names (e .k) (length rs))
+    (pick (eqb (e .kind) 2) (names (e .k) (length rs + 1))
+    (pick (eqb (e .kind) 3) (both (names (e .k) (length rs)) (ltb 1 (length rs)))
+    (pick (eqb (e .kind) 4) (both (names (e .k) (length rs)) (both (leb 1 (e .x)) (ltb (e .x) (rowNamed rs (e .k) .thickness))))
     false)))
-
--- "An accepted edit changes the log, closes or opens the place by moving the rows below": places moved down by one, the last going
-abbrev pub moved : List ℕ → List ℕ
-moved t = take (length t - rowSize) t
-
--- the log with count n; the bytes from row k on, and those before it
-abbrev pub withCount : ℕ → List ℕ → List ℕ
-withCount n log = n ∷ drop 1 log
-
-abbrev pub fromRow : ℕ → List ℕ → List ℕ
-fromRow k log = drop (placeByte k) log
-
-abbrev pub upTo : ℕ → List ℕ → List ℕ
-upTo k log = take (placeByte k) log
 
 -- "both parts of the same soil"
 abbrev pub part : ℕ → Row → Row
 part t r = record { thickness = t; kind = r .kind; index = r .index; saturation = r .saturation; zero = r .zero }
 
-unfoldable pub replacedLog : ℕ → List ℕ → List ℕ → List ℕ
-replacedLog k row log = upTo k log ++ row ++ drop rowSize (fromRow k log)
+-- the first i rows; then new ones in the stead of the n rows below them; then the rest
+abbrev pub splice : ℕ → ℕ → List Row → List Row → List Row
+splice i n new rs = take i rs ++ (new ++ drop (i + n) rs)
 
-unfoldable pub insertedLog : ℕ → List ℕ → List ℕ → List ℕ
-insertedLog k row log = withCount (countOf log + 1) (upTo k log ++ row ++ moved (fromRow k log))
+-- how many rows go. Insert: none; the other three take row k away
+abbrev pub gone : ℕ → ℕ
+gone kind = pick (eqb kind 2) 0 1
 
-unfoldable pub removedLog : ℕ → List ℕ → List ℕ
-removedLog k log = withCount (countOf log - 1) (upTo k log ++ drop rowSize (fromRow k log) ++ replicate rowSize 0)
+-- what comes. Replace and insert: the new row. Remove: nothing. Split: row k in two parts, x mm and the rest. (No other kind gets here: 13.)
+abbrev pub come : Edit → List Row → List Row
+come e rs =
+    pick (brings (e .kind)) (rowAt (e .row) 0 ∷ [])
+    (pick (eqb (e .kind) 3) []
+    (part (e .x) (rowNamed rs (e .k)) ∷ part (rowNamed rs (e .k) .thickness - e .x) (rowNamed rs (e .k)) ∷ []))
 
-unfoldable pub splitLog : ℕ → ℕ → List ℕ → List ℕ
-splitLog k x log =
-    let r = rowNamed log k in
-    withCount (countOf log + 1)
-    (upTo k log ++ rowBytes (part x r) ++ rowBytes (part (r .thickness - x) r) ++ moved (drop rowSize (fromRow k log)))
+unfoldable pub editedRows : Edit → List Row → List Row
+editedRows e rs = splice (e .k - 1) (gone (e .kind)) (come e rs) rs
 
+-- "An accepted edit changes the log, closes or opens the place by moving the rows below": a log of the same form with the rows that are then
+-- there. (That moving the bytes of the lent log comes to this is proved in edit_moves.)
 unfoldable pub editedLog : Edit → List ℕ → List ℕ
-editedLog e log =
-    pick (eqb (e .kind) 1) (replacedLog (e .k) (e .row) log)
-    (pick (eqb (e .kind) 2) (insertedLog (e .k) (e .row) log)
-    (pick (eqb (e .kind) 3) (removedLog (e .k) log)
-    (splitLog (e .k) (e .x) log)))
+editedLog e log = logFor (limitOf log) (editedRows e (rowsOf log))
 
 -- "then 3 for its new row (row number k)"
 unfoldable pub newRowCheck : Edit → Refusal
@@ -98,19 +86,22 @@ newRowCheck e =
     let f = wrongField (rowAt (e .row) 0) in
     pick (both (brings (e .kind)) (ltb 0 f)) (record { number = 3; row = e .k; field = f }) nothing
 
--- 13: "edit is none of the four kinds, names no such row or split point, or removes the only row"; 14: "insert or split with 64 rows";
--- 3; "then 4 for the new log"
+-- 14: "insert or split with 64 rows": as many as the form has
+abbrev pub full : ℕ → ℕ → ℕ → Bool
+full kind limit count = both (grows kind) (leb limit count)
+
+-- 13: "edit is none of the four kinds, names no such row or split point, or removes the only row"; 14; 3; "then 4 for the new log"
 unfoldable pub changeChecks : Edit → List ℕ → Refusal
 changeChecks e log =
-    first (when (neg (stands e log)) 13)
-    (first (when (both (grows (e .kind)) (leb rowLimit (countOf log))) 14)
+    first (when (neg (stands e (rowsOf log))) 13)
+    (first (when (full (e .kind) (limitOf log) (length (rowsOf log))) 14)
     (first (newRowCheck e)
-    (when (ltb depthLimit (depthOf (rowsOf (editedLog e log)))) 4)))
+    (when (ltb depthLimit (depthOf (editedRows e (rowsOf log)))) 4)))
 
 -- "An edit checks 1 to 4 of what is lent, 13, 14, then 3 for its new row (row number k), then 4 for the new log; these refuse the edit."
 unfoldable pub editChecks : Edit → List ℕ → List ℕ → List ℕ → Refusal
 editChecks e log pile table =
-    first (when (editLengths e log pile table) 1) (first (logChecks log) (changeChecks e log))
+    first (when (editLengths e log pile table) 1) (first (contentChecks log) (changeChecks e log))
 
 -- two lists of bytes are the same
 unfoldable pub sameBytes : List ℕ → List ℕ → Bool

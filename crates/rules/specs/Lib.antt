@@ -1,6 +1,9 @@
 -- Document 01 as definitions; README.md has the map.
 pub mod Base
+pub mod Widths
+pub mod Records
 pub mod Limits
+pub mod Bounds
 pub mod Packed
 pub mod Checks
 pub mod Reading

@@ -1,31 +1,46 @@
--- Sizes and counts of document 01, each named once. (Ranges of fields and the numbers of checks 7 to 12 stand with their sentences.)
+-- Counts and lengths of document 01, each named once; the sizes of records are in Records. (Ranges of fields and the numbers of checks 7 to
+-- 12 stand with their sentences, but for the deepest tip, on which the places and Bounds hang.)
+use mathlib.Core.List.{List, [], _∷_}
 use Prim.Native.Nat.{ℕ, _+_, _*_}
+use lib.Dec.{eqb}
+use lib.ListN.{length}
+use Rattle.rules.specs.Base.{pick}
+use Rattle.rules.specs.Records.{rowSize, sliceSize}
 
--- "then 64 row places of 5 bytes"
+-- "then 64 row places". A form is a number of row places, which sets the lengths of log and table; 01 has one, 64. This is the largest:
 abbrev pub rowLimit : ℕ
 rowLimit = 64
 
-abbrev pub rowSize : ℕ
-rowSize = 5
+-- all forms
+abbrev pub forms : List ℕ
+forms = rowLimit ∷ []
 
--- "Log, exactly 321 bytes"
-abbrev pub logSize : ℕ
-logSize = 1 + rowLimit * rowSize
+-- "Log, exactly 321 bytes": one byte, and n row places
+abbrev pub logSize : ℕ → ℕ
+logSize n = 1 + n * rowSize
 
--- "Pile record, exactly 8 bytes"
-abbrev pub pileSize : ℕ
-pileSize = 8
+-- "83 places", for 64 rows: one row down to 40,000 mm has at most 20 slices of 2,000, and each further row adds at most one
+abbrev pub placesFor : ℕ → ℕ
+placesFor n = n + 19
 
--- "83 places of 7 bytes"
 abbrev pub placeLimit : ℕ
-placeLimit = 83
-
-abbrev pub sliceSize : ℕ
-sliceSize = 7
+placeLimit = placesFor rowLimit
 
 -- "Slice table, exactly 581 bytes"
-abbrev pub tableSize : ℕ
-tableSize = placeLimit * sliceSize
+abbrev pub tableSize : ℕ → ℕ
+tableSize n = placesFor n * sliceSize
+
+-- the first n of a list with size n = len; 0 where there is none (no form is 0)
+abbrev pub formBy : (ℕ → ℕ) → List ℕ → ℕ → ℕ
+formBy size [] len = 0
+formBy size (n ∷ ns) len = pick (eqb len (size n)) n (formBy size ns len)
+
+-- the row limit that the length of a lent log tells, and that of a lent slice table
+unfoldable pub limitOf : List ℕ → ℕ
+limitOf log = formBy logSize forms (length log)
+
+unfoldable pub tableLimit : List ℕ → ℕ
+tableLimit table = formBy tableSize forms (length table)
 
 -- "The rows together are at most 60,000 mm."
 abbrev pub depthLimit : ℕ
@@ -34,3 +49,7 @@ depthLimit = 60000
 -- "slices of 2,000 mm"
 abbrev pub sliceLimit : ℕ
 sliceLimit = 2000
+
+-- "over 40,000"
+abbrev pub tipLimit : ℕ
+tipLimit = 40000

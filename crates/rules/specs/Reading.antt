@@ -12,24 +12,25 @@ use Rattle.rules.specs.declared.Slice.{Slice}
 use Rattle.rules.specs.declared.LogRead.{LogRead}
 use Rattle.rules.specs.declared.PileRead.{PileRead}
 use Rattle.rules.specs.declared.SliceRead.{SliceRead}
-use Rattle.rules.specs.Base.{pick, both, either, neg, refuses, when, first}
-use Rattle.rules.specs.Limits.{rowLimit, placeLimit, logSize, pileSize, tableSize}
+use Rattle.rules.specs.Base.{pick, both, either, neg, refuses, when, first, allZero}
+use Rattle.rules.specs.Records.{rowFields, pileFrom, pileSize, sliceFrom}
+use Rattle.rules.specs.Limits.{rowLimit, placesFor, limitOf, tableLimit}
 use Rattle.rules.specs.Packed.{logOf, pileOf, sliceAt, noRow, logBytes, pileBytes}
-use Rattle.rules.specs.Checks.{longOther, countWrong, fieldChecks, firstWrong, pileChecks}
+use Rattle.rules.specs.Checks.{longOther, formless, countWrong, fieldChecks, firstWrong, pileChecks}
 
 -- "a refused reading gives zero fields"
 abbrev pub noLog : Log
 noLog = record { count = 0; rows = replicate rowLimit noRow }
 
 abbrev pub noPile : Pile
-noPile = record { section = 0; a = 0; b = 0; method = 0; head = 0; tip = 0; zero = 0 }
+noPile = pileFrom []
 
 abbrev pub noSlice : Slice
-noSlice = record { top = 0; thickness = 0; friction = 0; factor = 0 }
+noSlice = sliceFrom []
 
 unfoldable pub readLog : List ℕ → LogRead
 readLog s =
-    let r = first (when (longOther logSize s) 1) (fieldChecks s) in
+    let r = first (when (formless s) 1) (fieldChecks s) in
     record { refusal = r; log = pick (refuses r) noLog (logOf s) }
 
 unfoldable pub readPile : List ℕ → PileRead
@@ -40,26 +41,27 @@ readPile s =
 -- one place of a slice table, counted from 0; past the last: all zero
 unfoldable pub readSlice : List ℕ → ℕ → SliceRead
 readSlice s i =
-    let here = pick (ltb i placeLimit) (sliceAt s i) noSlice in
-    pick (longOther tableSize s) (record { refusal = 1; slice = noSlice }) (record { refusal = 0; slice = here })
+    let here = pick (ltb i (placesFor (tableLimit s))) (sliceAt s i) noSlice in
+    pick (eqb (tableLimit s) 0) (record { refusal = 1; slice = noSlice }) (record { refusal = 0; slice = here })
 
+-- an unused place: every field is 0
 abbrev pub rowZero : Row → Bool
-rowZero r = both (eqb (r .thickness) 0) (both (eqb (r .kind) 0) (both (eqb (r .index) 0) (both (eqb (r .saturation) 0) (eqb (r .zero) 0))))
+rowZero r = allZero (rowFields r)
 
 unfoldable pub rowsZero : List Row → Bool
 rowsZero [] = true
 rowsZero (r ∷ rs) = let on = rowsZero rs in both (rowZero r) on
 
 -- 2 of fields that are packed
-unfoldable pub unusedFields : Log → Bool
-unusedFields l = let blank = rowsZero (drop (l .count) (take rowLimit (l .rows))) in either (countWrong (l .count)) (neg blank)
+unfoldable pub unusedFields : ℕ → Log → Bool
+unusedFields n l = let blank = rowsZero (drop (l .count) (take rowLimit (l .rows))) in either (countWrong n (l .count)) (neg blank)
 
 unfoldable pub packLogCheck : Log → List ℕ → Refusal
-packLogCheck l s = first (when (longOther logSize s) 1) (first (when (unusedFields l) 2) (firstWrong 1 (take (l .count) (l .rows))))
+packLogCheck l s = first (when (formless s) 1) (first (when (unusedFields (limitOf s) l) 2) (firstWrong 1 (take (l .count) (l .rows))))
 
 -- "a refused packing changes no buffer"
 unfoldable pub packedLog : Log → List ℕ → List ℕ
-packedLog l s = pick (refuses (packLogCheck l s)) s (logBytes l)
+packedLog l s = pick (refuses (packLogCheck l s)) s (logBytes (limitOf s) l)
 
 unfoldable pub packPileCheck : Pile → List ℕ → Refusal
 packPileCheck p s = first (when (longOther pileSize s) 1) (pileChecks p)

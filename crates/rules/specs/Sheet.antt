@@ -2,11 +2,12 @@
 use mathlib.Core.List.{List, [], _∷_, _++_}
 use Prim.Native.Nat.{ℕ, zero, suc, _+_, _/_, _%_}
 use lib.Dec.{ltb}
-use lib.ListN.{take, drop, replicate}
+use lib.ListN.{length, take, drop, replicate}
 use Rattle.rules.specs.declared.Answer.{Answer}
 use Rattle.rules.specs.declared.Slice.{Slice}
 use Rattle.rules.specs.Base.{pick, refuses}
-use Rattle.rules.specs.Limits.{logSize, tableSize}
+use Rattle.rules.specs.Records.{pileSize}
+use Rattle.rules.specs.Limits.{forms, formBy, logSize, tableSize}
 use Rattle.rules.specs.Packed.{rowsOf, pileOf}
 use Rattle.rules.specs.Calculation.{calculated, slicesOfRows}
 
@@ -57,10 +58,18 @@ totalLine a = textLine totalWord (a .line ∷ a .tip ∷ a .shaft ∷ a .capacit
 unfoldable pub sheetOf : Answer → List Slice → List ℕ
 sheetOf a cs = answerLine a ++ pick (refuses (a .refusal)) [] (sliceLines cs ++ totalLine a)
 
--- "reads 329 bytes from standard input, log then pile record; any other length is refusal 1": what is not 329 long
--- leaves a log or a pile record of the wrong length
+-- "reads 329 bytes from standard input, log then pile record; any other length is refusal 1": the form whose log and pile record together are
+-- so long; where there is none, 0, and then the log is cut to one byte at most, which is refusal 1
+unfoldable pub inputLimit : List ℕ → ℕ
+inputLimit input = formBy (λ n. logSize n + pileSize) forms (length input)
+
+abbrev pub inputLog : ℕ → List ℕ → List ℕ
+inputLog n input = take (logSize n) input
+
+abbrev pub inputPile : ℕ → List ℕ → List ℕ
+inputPile n input = drop (logSize n) input
+
 unfoldable pub sheetText : List ℕ → List ℕ
 sheetText input =
-    let log = take logSize input in
-    let pile = drop logSize input in
-    sheetOf (calculated log pile (replicate tableSize 0)) (slicesOfRows (rowsOf log) (pileOf pile))
+    let n = inputLimit input in
+    sheetOf (calculated (inputLog n input) (inputPile n input) (replicate (tableSize n) 0)) (slicesOfRows (rowsOf (inputLog n input)) (pileOf (inputPile n input)))

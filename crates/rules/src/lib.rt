@@ -1,16 +1,35 @@
 // The things document 01 speaks of, as types: soil, row, log, pile, slice, refusal, answer, and the cells of a table.
 // Every other crate, and every definition in specs/, uses these.
 mod limits;
+mod widths;
 
 pub use limits::DEPTH_LIMIT;
 pub use limits::LOG_SIZE;
-pub use limits::PILE_SIZE;
+pub use limits::MORE_PLACES;
 pub use limits::PLACE_LIMIT;
 pub use limits::ROW_LIMIT;
-pub use limits::ROW_SIZE;
 pub use limits::SLICE_LIMIT;
-pub use limits::SLICE_SIZE;
 pub use limits::TABLE_SIZE;
+pub use limits::TIP_LIMIT;
+pub use widths::PILE_A;
+pub use widths::PILE_B;
+pub use widths::PILE_HEAD;
+pub use widths::PILE_METHOD;
+pub use widths::PILE_SECTION;
+pub use widths::PILE_SIZE;
+pub use widths::PILE_TIP;
+pub use widths::PILE_ZERO;
+pub use widths::ROW_INDEX;
+pub use widths::ROW_KIND;
+pub use widths::ROW_SATURATION;
+pub use widths::ROW_SIZE;
+pub use widths::ROW_THICKNESS;
+pub use widths::ROW_ZERO;
+pub use widths::SLICE_FACTOR;
+pub use widths::SLICE_FRICTION;
+pub use widths::SLICE_SIZE;
+pub use widths::SLICE_THICKNESS;
+pub use widths::SLICE_TOP;
 
 // Refusal number, row and field; all 0 where nothing is refused.
 #[repr(C)]
@@ -30,7 +49,7 @@ pub struct Row {
     pub zero: u8,
 }
 
-// A log: how many rows are used, and all 64 places.
+// A log: how many rows are used, and all its places.
 #[repr(C)]
 pub struct Log {
     pub count: u8,

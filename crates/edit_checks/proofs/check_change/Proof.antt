@@ -1,14 +1,16 @@
--- check_change: check by check; the new log is as deep as the lent one, less what goes and with what comes.
+-- Check by check, each where those before it refuse nothing; the new log is as deep as the lent one, less what goes and with what comes.
 use mathlib.Core.Path.{_≡_, sym, _∙_}
 use mathlib.Core.Bool.{true, false}
 use mathlib.Core.List.{[]}
-use borrow.Author.Tests.{not-true, not-false}
 use native.Mathlib.Omega.{arith}
-use Rattle.rules.specs.Packed.{countOf}
-use Rattle.rules.specs.Edits.{stands}
-use Rattle.edited.specs.Asked.{asked, full}
-use Rattle.edited.proofs.StandLaws.{standing, named-low}
-use Rattle.edit_checks.proofs.ChangeChecks.{change-13, change-14, change-3, Allowed, allowed, over, not-over}
+use lib.ListN.{length}
+use borrow.Author.Tests.{not-true, not-false}
+use Rattle.rules.specs.Limits.{limitOf}
+use Rattle.rules.specs.Packed.{rowsOf}
+use Rattle.rules.specs.Edits.{asked, stands, full}
+use Rattle.rules.proofs.PassedLaws.{known}
+use Rattle.rules.proofs.EditLaws.{standing}
+use Rattle.edit_checks.proofs.ChangeChecks.{Deep, deep, named, change-13, change-14, change-3, change-4, change-none}
 use borrow.Author.Needs.{needs}
 use Rattle.edit_checks.proofs.check_change.Statement.{statement}
 use Rattle.edit_checks.proofs.check_change.Tie as tie
@@ -16,100 +18,60 @@ use Rattle.edit_checks.proofs.check_change.Tie as tie
 -- 13 is past: the edit stands
 it-stands : (c : tie.Else1)
     → let a = c .before .before .before .before .args in
-    stands (asked (a .kind) (a .k) (a .x) []) (a .log .now) ≡ true
+    stands (asked (a .kind) (a .k) (a .x) []) (rowsOf (a .log .now)) ≡ true
 it-stands c = sym (c .before .stands .ensures) ∙ not-false _ (c .if1 .left)
 
 -- 14 is past: there is a place for what it brings
 free-place : (c : tie.Else2)
     → let a = c .before .before .before .before .before .before .args in
-    full (a .kind) (countOf (a .log .now)) ≡ false
+    full (a .kind) (limitOf (a .log .now)) (length (rowsOf (a .log .now))) ≡ false
 free-place c = sym (c .before .full .ensures) ∙ c .if2 .left
 
--- 3 is past too
-fair : (c : tie.Else3)
+-- 3 is past too: the depth of the new log
+depth-then : (c : tie.Else3)
     → let a = c .before .before .before .before .before .before .before .before .before .args in
-    Allowed (a .log .now) (a .depth) (a .kind) (a .k) (a .x) (a .row .now)
-fair c =
-    allowed _ _ _ _ _ _ (c .before .before .before .before .before .before .before .before .before .pre) (λ i. c .before .before .before .before .before .before .before .before .shared-slice-known .given i .fits) (λ i. c .before .before .before .before .before .before .before .shared-slice-known2 .given i .fits)
-    (it-stands (c .before .before .before .before .before)) (free-place (c .before .before .before)) _ (c .before .before .new-row-refusal .ensures) (c .if3 .left)
+    Deep (a .kind) (a .k) (a .x) (a .row .now) (rowsOf (a .log .now))
+depth-then c = deep _ _ _ _ _ (standing _ _ _ [] _ (it-stands (c .before .before .before .before .before)))
 
 stands-requires : tie.Need-stands-requires
-stands-requires c κs = search needs
-
-refused-requires : tie.Need-refused-requires
-refused-requires c κs = search needs
+stands-requires c κs = known _ (c .before .before .pre .0) .inside
 
 returns : tie.Need-returns
-returns c =
-    let a = c .before .before .before .before .before .args in
-    c .refused .ensures ∙ change-13 (a .kind) (a .k) (a .x) (a .row .now) (a .log .now) (sym (c .before .before .stands .ensures) ∙ not-true _ (c .before .if1 .taken))
+returns c = c .refused .ensures ∙ change-13 _ _ _ _ _ (sym (c .before .before .stands .ensures) ∙ not-true _ (c .before .if1 .taken))
 
 full-requires : tie.Need-full-requires
-full-requires c κs = search needs
-
-refused-requires-2 : tie.Need-refused-requires-2
-refused-requires-2 c κs = search needs
+full-requires c κs = omega (arith, known _ (c .before .before .before .before .pre .0) .inside)
 
 returns-2 : tie.Need-returns-2
-returns-2 c =
-    let a = c .before .before .before .before .before .before .before .args in
-    c .refused2 .ensures
-    ∙ change-14 (a .kind) (a .k) (a .x) (a .row .now) (a .log .now) (it-stands (c .before .before .before)) (sym (c .before .before .full .ensures) ∙ c .before .if2 .taken)
-
-new-row-refusal-requires : tie.Need-new-row-refusal-requires
-new-row-refusal-requires c κs = search needs
+returns-2 c = c .refused2 .ensures ∙ change-14 _ _ _ _ _ (it-stands (c .before .before .before)) (sym (c .before .before .full .ensures) ∙ c .before .if2 .taken)
 
 returns-3 : tie.Need-returns-3
-returns-3 c =
-    let a = c .before .before .before .before .before .before .before .before .before .args in
-    change-3 (a .kind) (a .k) (a .x) (a .row .now) (a .log .now) (it-stands (c .before .before .before .before .before)) (free-place (c .before .before .before)) _ (c .before .before .new-row-refusal .ensures) (c .if3 .taken)
+returns-3 c = change-3 _ _ _ _ _ (it-stands (c .before .before .before .before .before)) (free-place (c .before .before .before)) _ (c .before .before .new-row-refusal .ensures) (c .if3 .taken)
 
 gone-requires : tie.Need-gone-requires
 gone-requires c κs =
-    let a = c .before .before .before .before .before .before .before .before .before .args in
-    named-low _ _ _ _ (standing (a .kind) (a .k) (a .x) [] (a .log .now) (it-stands (c .before .before .before .before .before)))
+    let start = c .before .before .before .before .before .before .before .before .before in
+    let q = known _ (start .pre .0) in
+    (q .inside, λ o. let n = named _ _ _ (start .args .row .now) _ (standing _ _ _ [] _ (it-stands (c .before .before .before .before .before))) o in (n .0, omega (arith, n .1, q .rows)))
 
 sub-deep : tie.Need-sub-deep
-sub-deep c = omega (arith, fair (c .before) .less, c .gone .ensures)
-
-come-requires : tie.Need-come-requires
-come-requires c κs = search needs
+sub-deep c = omega (arith, depth-then (c .before) .less)
 
 add-deep : tie.Need-add-deep
-add-deep c = omega (arith, fair (c .before .before) .deep, c .come .ensures .1)
-
-refused-requires-3 : tie.Need-refused-requires-3
-refused-requires-3 c κs = search needs
+add-deep c = omega (arith, known _ (c .before .before .before .before .before .before .before .before .before .before .before .pre .0) .deep)
 
 returns-4 : tie.Need-returns-4
 returns-4 c =
+    let past = c .before .before .before .before in
     c .refused3 .ensures
-    ∙ over _ _ _ _ _ _ (fair (c .before .before .before .before)) _ _ (c .before .before .before .gone .ensures) (c .before .before .come .ensures .0) (c .before .if4 .taken)
-
-refuse-requires : tie.Need-refuse-requires
-refuse-requires c κs = search needs
+    ∙ change-4 _ _ _ _ _ (it-stands (past .before .before .before .before .before)) (free-place (past .before .before .before)) _ (past .before .before .new-row-refusal .ensures) (past .if3 .left) _ (omega (arith, depth-then past .new)) (c .before .if4 .taken)
 
 returns-5 : tie.Need-returns-5
 returns-5 c =
-    not-over _ _ _ _ _ _ (fair (c .before .before .before .before)) _ _ (c .before .before .before .gone .ensures) (c .before .before .come .ensures .0) _ (c .refuse .ensures) (c .before .if4 .left)
+    let past = c .before .before .before .before in
+    change-none _ _ _ _ _ (it-stands (past .before .before .before .before .before)) (free-place (past .before .before .before)) _ (past .before .before .new-row-refusal .ensures) (past .if3 .left) _ (omega (arith, depth-then past .new)) _ (c .refuse .ensures) (c .before .if4 .left)
 
 pub check-change-spec : {M : Type 1} → statement M
 check-change-spec =
-    tie.close
-    (tie.spec
-    stands-requires
-    refused-requires
-    returns
-    full-requires
-    refused-requires-2
-    returns-2
-    new-row-refusal-requires
-    returns-3
-    gone-requires
-    sub-deep
-    come-requires
-    add-deep
-    refused-requires-3
-    returns-4
-    refuse-requires
-    returns-5)
+    tie.close (tie.spec stands-requires (λ c κs. search needs) returns full-requires (λ c κs. search needs) returns-2 (λ c κs. search needs) returns-3
+    gone-requires sub-deep (λ c κs. search needs) add-deep (λ c κs. search needs) returns-4 (λ c κs. search needs) returns-5)

@@ -6,8 +6,8 @@ use Rattle.psamathyr.proofs.psamathyr_pack_log.Statement.{statement}
 use Rattle.psamathyr.proofs.psamathyr_pack_log.Tie as tie
 use Rattle.psamathyr.proofs.psamathyr_pack_log.Reads as reads
 use Rattle.psamathyr.proofs.psamathyr_pack_log.Lts as lts
-use Rattle.replies.proofs.refused.Reads as refused-reads
-use Rattle.packing.proofs.pack_log.Reads as pack-log-reads
+use Rattle.base_replies.proofs.refused.Reads as refused-reads
+use Rattle.record_packing.proofs.pack_log.Reads as pack-log-reads
 
 pack-log-requires : tie.Need-pack-log-requires
 pack-log-requires c κs = search needs

@@ -1,0 +1,2 @@
+-- Laws of the calculation.
+pub mod CheckedLaws

@@ -1,0 +1,31 @@
+// Checks 9 to 12, which look at the soil below the tip, its stratum and the tip table.
+use crate::seat::seat_short;
+use norm_tips::is_dash;
+ghost use mathlib.Core.Path.{_≡_};
+ghost use Prim.Native.Nat.{_≤_};
+ghost use Rattle.rules.specs.Base as base;
+ghost use Rattle.rules.specs.Numbers.{tipOf, tipRead};
+ghost use Rattle.rules.specs.Answers.{late};
+use rules::Pile;
+use rules::Soil;
+use rules::TipRead;
+
+// By the tip's soil, the top of its stratum and what the tip table is read to: the number of the first that refuses, or 0.
+pub fn tip_refusal(pile: Pile, soil: Soil, top: u64, read: TipRead) -> u32
+    requires { ⌜ (pile .head ≤ pile .tip) × (top ≤ pile .tip) × (read ≡ tipRead (tipOf pile) (soil .index)) ⌝ }
+    ensures { λ r. ⌜ base.refuse r ≡ late soil top pile ⌝ }
+{
+    if soil.kind <= 3 {
+        return 9;
+    }
+    if seat_short(pile, top) {
+        return 10;
+    }
+    if 160 < soil.index {
+        return 11;
+    }
+    if is_dash(read) {
+        return 12;
+    }
+    0
+}

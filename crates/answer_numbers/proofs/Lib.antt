@@ -1,0 +1,2 @@
+-- Laws of a pile's sides, and of what they are multiplied by.
+pub mod SideLaws

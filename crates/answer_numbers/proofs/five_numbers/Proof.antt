@@ -1,0 +1,14 @@
+-- Each number is what its function says, and tip and shaft are each bounded, so that their sum is.
+use Rattle.rules.specs.Answers.{numbers}
+use borrow.Author.Needs.{needs}
+use Rattle.answer_numbers.proofs.five_numbers.Statement.{statement}
+use Rattle.answer_numbers.proofs.five_numbers.Tie as tie
+
+returns : tie.Need-returns
+unfolding numbers
+returns c = simp (c .before .before .refuse .ensures, c .before .capacity .ensures, c .uplift .ensures, c .before .before .before .before .tip-force .ensures .0, c .before .before .before .shaft-force .ensures .0)
+
+pub five-numbers-spec : {M : Type 1} → statement M
+five-numbers-spec =
+    tie.close (tie.spec (λ c κs. search needs) (λ c κs. search needs) (λ c κs. search needs) (λ c. search needs) (λ c κs. search needs)
+    (λ c κs. search needs) returns)

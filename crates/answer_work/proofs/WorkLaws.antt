@@ -1,0 +1,150 @@
+-- What is worked out, check by check: the first check that refuses decides, and past them all the numbers stand.
+use mathlib.Core.Path.{_≡_, sym, _∙_, ap}
+use mathlib.Core.Bool.{Bool, true, false}
+use mathlib.Core.Logic.{⊎-elim}
+use mathlib.Core.List.{List}
+use Prim.Native.Nat.{ℕ, zero, suc, _/_, _<_, _≤_}
+use native.Mathlib.Omega.{arith}
+use lib.Dec.{ltb}
+use lib.ListN.{length, replicate}
+use lib.Seq.{take-all}
+use borrow.Author.Tests.{lt-ltb, le-ltb, ltb-false}
+use Rattle.rules.specs.declared.Refusal.{Refusal}
+use Rattle.rules.specs.declared.Row.{Row}
+use Rattle.rules.specs.declared.Soil.{Soil}
+use Rattle.rules.specs.declared.Pile.{Pile}
+use Rattle.rules.specs.declared.Slice.{Slice}
+use Rattle.rules.specs.declared.Answer.{Answer}
+use Rattle.rules.specs.declared.TipRead.{TipRead}
+use Rattle.rules.specs.Base.{pick, refuse, refuses, when, first}
+use Rattle.rules.specs.Limits.{placeLimit}
+use Rattle.rules.specs.Packed.{rowsOf, pileOf, tableBytes}
+use Rattle.rules.specs.Checks.{pileChecks, depthOf}
+use Rattle.rules.specs.Ground.{same, soilAt}
+use Rattle.rules.specs.Pieces.{runTop}
+use Rattle.rules.specs.Numbers.{tipOf, tipRead, pascals, resistance, total}
+use Rattle.rules.specs.Answers.{early, late, tooMany, checksFrom, refused, numbers, answerFrom, slicesFrom, answer, slices}
+use Rattle.rules.specs.Calculation.{answerOf, slicesOfRows, freshAnswer}
+use Rattle.rules.proofs.Basics.{sure}
+use Rattle.rules.proofs.RefusalLaws.{first-left, first-right, when-true, when-false}
+use Rattle.record_slice_table.proofs.TableLaws.{filled-none}
+use Rattle.ground_strata.specs.declared.Stratum.{Stratum}
+use Rattle.ground_strata.specs.Strata.{stratumAt}
+use Rattle.ground_shaft.specs.declared.Shaft.{Shaft}
+use Rattle.ground_shaft.specs.Shafts.{cutOf, heldOf, noShaft, shaftOf}
+use Rattle.answer_checks.specs.Depths.{depthChecks}
+
+-- a refusal's number, and whether it refuses
+pub on : (n : ℕ) → (n ≡ 0 → ⊥) → ltb 0 n ≡ true
+on n h = lt-ltb 0 n (omega (arith, h))
+
+pub off : (n : ℕ) → n ≡ 0 → ltb 0 n ≡ false
+off n h = le-ltb 0 n (omega arith)
+
+-- a shaft with places for its slices, and one without
+module _ (cs : List Slice) (c : Shaft) (e : c ≡ shaftOf cs) where
+  by-test : (t : Bool) → tooMany (length cs) ≡ t → c ≡ pick t noShaft (record { used = length cs; total = total cs })
+  unfolding shaftOf
+  by-test t q = rw q at e
+
+  shaft-many : placeLimit < c .used → tooMany (length cs) ≡ true
+  shaft-many h =
+      ⊎-elim (λ t. t)
+      (λ f. absurd (omega (arith, ap (λ (x : Shaft). x .used) (by-test false f), ltb-false placeLimit (length cs) f)))
+      (sure (tooMany (length cs)))
+
+  shaft-few : c .used ≤ placeLimit → (tooMany (length cs) ≡ false) × (c ≡ record { used = length cs; total = total cs })
+  shaft-few h = ⊎-elim (λ t. absurd (omega (arith, ap (λ (x : Shaft). x .used) (by-test true t)))) (λ f. (f, by-test false f)) (sure (tooMany (length cs)))
+
+top-le : (g : ℕ → Soil) (s : Soil) (n : ℕ) → runTop g s n ≤ n
+unfolding runTop
+top-le g s zero = omega arith
+top-le g s (suc n) = go (same s (g n)) (top-le g s n)
+  where
+    go : (t : Bool) → runTop g s n ≤ n → pick t (runTop g s n) (suc n) ≤ suc n
+    go true h = omega arith
+    go false h = omega arith
+
+pub stratum-top : (rs : List Row) (m : ℕ) (s : Stratum) → s ≡ stratumAt rs m → s .top ≤ m
+stratum-top rs m s e = rw e (top-le (soilAt rs) (soilAt rs m) m)
+
+-- checks 5 and 6, then 7 and 8, as the code has them in hand
+pub early-is : (depth : ℕ) (p : Pile) (r own deep : Refusal) (n : ℕ) → r ≡ first own deep → own ≡ pileChecks p → deep ≡ refuse n → refuse n ≡ depthChecks depth p → r ≡ early depth p
+unfolding early depthChecks
+early-is depth p r own deep n f o d e = rw (f, o, d, e)
+
+-- the answer, how many slices it has, and the table: what is to be worked out
+abbrev pub Right : List Row → Pile → ℕ → Answer → ℕ → List ℕ → Type 0
+Right rs p size a used bytes = ((a ≡ answerOf rs p) × (used ≡ length (slicesOfRows rs p))) × (bytes ≡ tableBytes size (slicesOfRows rs p))
+
+-- and what a refusal leaves
+abbrev pub Cleared : Refusal → ℕ → Answer → ℕ → List ℕ → Type 0
+Cleared r size a used bytes = ((a ≡ refused r) × (used ≡ 0)) × (bytes ≡ replicate size 0)
+
+module _ (rs : List Row) (p : Pile) (size : ℕ) where
+  abbrev below : Soil
+  below = soilAt rs (p .tip)
+
+  abbrev top : ℕ
+  top = runTop (soilAt rs) (soilAt rs (p .tip)) (p .tip)
+
+  abbrev cut : List Slice
+  cut = cutOf rs p
+
+  abbrev checks : Refusal
+  checks = checksFrom (depthOf rs) below top cut p
+
+  -- what refusal r leaves is what is to be worked out
+  abbrev pub Decides : Refusal → Type 0
+  Decides r = (a : Answer) (used : ℕ) (bytes : List ℕ) → Cleared r size a used bytes → Right rs p size a used bytes
+
+  decides : (r c : Refusal) → r ≡ c → refuses r ≡ true → (refuses c ≡ true → checks ≡ c) → Decides r
+  unfolding answerOf answer answerFrom slicesOfRows slices slicesFrom
+  decides r c e h k a used bytes w =
+      let q : checks ≡ r = k (ap refuses (sym e) ∙ h) ∙ sym e in
+      ((w .0 .0 ∙ rw (q, h), w .0 .1 ∙ rw (q, h)), w .1 ∙ rw (q, h) (filled-none size .1))
+
+  -- by the first refusal of checks 5 to 8
+  module _ (r : Refusal) (e : r ≡ early (depthOf rs) p) where
+    pub no-early : (r .number ≡ 0 → ⊥) → Decides r
+    unfolding checksFrom
+    no-early n = decides r _ e (on (r .number) n) (λ h. first-left _ _ h)
+
+    pub past-early : r .number ≡ 0 → refuses (early (depthOf rs) p) ≡ false
+    past-early z = ap refuses (sym e) ∙ off (r .number) z
+
+  -- past checks 5 to 8, by the stratum that was found at the tip
+  module _ (h : refuses (early (depthOf rs) p) ≡ false) (s : Stratum) (e : s ≡ stratumAt rs (p .tip)) where
+    by-late : checks ≡ first (late below top p) (when (tooMany (length cut)) 15)
+    unfolding checksFrom
+    by-late = first-right _ _ h
+
+    module _ (n : ℕ) (l : refuse n ≡ late (s .soil) (s .top) p) where
+      late-is : refuse n ≡ late below top p
+      late-is = rw e at l
+
+      pub no-tip : (r : Refusal) → r ≡ refuse n → (n ≡ 0 → ⊥) → Decides r
+      no-tip r q k = decides r _ (q ∙ late-is) (ap refuses q ∙ on n k) (λ x. by-late ∙ first-left _ _ x)
+
+      -- past checks 9 to 12, by the shaft that was cut
+      module _ (z : n ≡ 0) (c : Shaft) (q : c ≡ shaftOf cut) where
+        last : checks ≡ when (tooMany (length cut)) 15
+        last = by-late ∙ first-right _ _ (ap refuses (sym late-is) ∙ off n z)
+
+        pub no-place : (r : Refusal) → r ≡ refuse 15 → placeLimit < c .used → Decides r
+        no-place r j o = decides r _ (j ∙ sym (when-true 15 _ (shaft-many cut c q o))) (ap refuses j) (λ x. last)
+
+        pub done : c .used ≤ placeLimit → (t : TipRead) (r line : ℕ) (a : Answer) (bytes : List ℕ) → t ≡ tipRead (tipOf p) (s .soil .index) → r ≡ pascals t → line ≡ c .total / 2000000
+            → a ≡ numbers (s .soil) p r line → bytes ≡ tableBytes size (heldOf cut) → Right rs p size a (c .used) bytes
+        unfolding answerOf answer answerFrom slicesOfRows slices slicesFrom resistance
+        done o t r line a bytes read j k f b =
+            let few = shaft-few cut c q o in
+            let none : refuses checks ≡ false = ap refuses (last ∙ when-false 15 _ (few .0)) in
+            let all : heldOf cut ≡ cut = take-all placeLimit cut (ltb-false placeLimit (length cut) (few .0)) in
+            ((rw (none, f, k, j, read, few .1, e), rw (none, few .1)), rw none (b ∙ ap (tableBytes size) all))
+
+-- of the bytes of a log and a pile record
+pub fresh : (log pile : List ℕ) (p : Pile) (size : ℕ) (a : Answer) {used : ℕ} {bytes : List ℕ} → p ≡ pileOf pile → Right (rowsOf log) p size a used bytes
+    → ((a ≡ freshAnswer log pile) × (used ≡ length (slicesOfRows (rowsOf log) (pileOf pile)))) × (bytes ≡ tableBytes size (slicesOfRows (rowsOf log) (pileOf pile)))
+unfolding freshAnswer
+fresh log pile p size a e w = rw e at w

@@ -1,0 +1,88 @@
+// What is worked out of a log past its checks and a pile record: checks 5 to 12 and 15 in order, the numbers, and the slice table, written in place.
+use answer_checks::depth_refusal;
+use answer_checks::tip_refusal;
+use answer_numbers::five_numbers;
+use answer_numbers::line_of;
+use base_replies::first;
+use base_replies::refuse;
+use base_replies::refused;
+use norm_tips::pascals;
+use record_pile_ranges::pile_refusal;
+use record_piles::take_pile;
+use record_slice_table::clear_table;
+ghost use mathlib.Core.Path.{_≡_};
+ghost use mathlib.Core.Bool.{false};
+ghost use Prim.Native.Nat.{_≤_};
+ghost use lib.ListN.{length, replicate};
+ghost use Rattle.rules.specs.Base as base;
+ghost use Rattle.rules.specs.Limits.{rowLimit, tableSize};
+ghost use Rattle.rules.specs.Packed.{rowsOf, pileOf, tableBytes};
+ghost use Rattle.rules.specs.Checks.{depthOf, Passed};
+ghost use Rattle.rules.specs.Answers.{early};
+ghost use Rattle.rules.specs.Answers as answers;
+ghost use Rattle.rules.specs.Calculation.{answerOf, slicesOfRows, freshAnswer};
+use rules::Answer;
+use rules::PLACE_LIMIT;
+use rules::Pile;
+use rules::Refusal;
+
+// What is worked out of a log and a pile record beside the table: the answer, and how many slices it has.
+pub struct Worked {
+    pub answer: Answer,
+    pub used: usize,
+}
+
+// A refusal by 5 to 12 or 15: no number, and no slice in the table.
+fn no_work(table: &mut [u8], refusal: Refusal) -> Worked
+    ensures { λ r. ⌜ (r .answer ≡ answers.refused refusal) × (r .used ≡ 0) ⌝ }
+    ensures { λ _. ⌜ now (table .exit) ≡ replicate (length (now (table .entry))) 0 ⌝ }
+{
+    clear_table(table);
+    let answer = refused(refusal);
+    Worked {
+        answer: answer,
+        used: 0,
+    }
+}
+
+// A pile that passes checks 5 to 8.
+fn work_pile(log: &[u8], pile: Pile, table: &mut [u8]) -> Worked
+    requires { ⌜ Passed (now log) × (base.refuses (early (depthOf (rowsOf (now log))) pile) ≡ false) × (tableSize rowLimit ≤ length (now table)) ⌝ }
+    ensures { λ r. ⌜ (r .answer ≡ answerOf (rowsOf (now (log .entry))) pile) × (r .used ≡ length (slicesOfRows (rowsOf (now (log .entry))) pile)) ⌝ }
+    ensures { λ _. ⌜ now (table .exit) ≡ tableBytes (length (now (table .entry))) (slicesOfRows (rowsOf (now (log .entry))) pile) ⌝ }
+{
+    let tip = pile.tip as u64;
+    let stratum = ground_strata::stratum_at(log, tip);
+    let soil = stratum.soil;
+    let read = norm_tips::tip_resistance(tip, soil.index);
+    let late = tip_refusal(pile, soil, stratum.top, read);
+    if late != 0 {
+        return no_work(table, refuse(late));
+    }
+    let cut = ground_shaft::cut_shaft(log, pile, table);
+    let used = cut.used;
+    if PLACE_LIMIT < used {
+        return no_work(table, refuse(15));
+    }
+    let answer = five_numbers(soil, pile, pascals(read), line_of(cut.total));
+    Worked {
+        answer: answer,
+        used: used,
+    }
+}
+
+// The answer and the table of a log past its checks, whose rows are this deep, and a pile record; the table has places for every form.
+pub fn work_out(log: &[u8], depth: u64, pile: &[u8], table: &mut [u8]) -> Worked
+    requires { ⌜ Passed (now log) × (depth ≡ depthOf (rowsOf (now log))) × (tableSize rowLimit ≤ length (now table)) ⌝ }
+    ensures { λ r. ⌜ (r .answer ≡ freshAnswer (now (log .entry)) (now (pile .entry))) × (r .used ≡ length (slicesOfRows (rowsOf (now (log .entry))) (pileOf (now (pile .entry))))) ⌝ }
+    ensures { λ _. ⌜ now (table .exit) ≡ tableBytes (length (now (table .entry))) (slicesOfRows (rowsOf (now (log .entry))) (pileOf (now (pile .entry)))) ⌝ }
+{
+    let p = take_pile(pile);
+    let own = pile_refusal(p);
+    let early = depth_refusal(p, depth);
+    let refusal = first(own, refuse(early));
+    if refusal.number != 0 {
+        return no_work(table, refusal);
+    }
+    work_pile(log, p, table)
+}

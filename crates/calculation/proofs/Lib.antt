@@ -1,3 +1,0 @@
--- Laws of the calculation.
-pub mod CheckedLaws
-pub mod Promise

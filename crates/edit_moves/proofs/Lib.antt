@@ -1,0 +1,3 @@
+-- Laws that the proofs of the functions cite, and that the moves of a log of rows are splices.
+pub mod PartLaws
+pub mod MoveLaws

@@ -1,3 +1,0 @@
--- Definitions beside the rules.
-pub mod Asked
-pub mod Divided

@@ -1,0 +1,3 @@
+-- Laws of the walk along a log's rows.
+pub mod LogLaws
+pub mod RunLaws

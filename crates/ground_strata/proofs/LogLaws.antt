@@ -1,0 +1,72 @@
+-- The rows of a log one by one, and what stands below the first few.
+use mathlib.Core.Path.{_≡_, _∙_, ap}
+use mathlib.Core.List.{List, [], _∷_}
+use Prim.Native.Nat.{ℕ, zero, suc, _+_, _*_, _-_, _<_, _≤_}
+use native.Mathlib.Omega.{arith}
+use native.Mathlib.Numerals.{add-one}
+use lib.ListN.{length, take, drop, drop-of-length-le}
+use lib.Seq.{take-all}
+use Rattle.rules.specs.declared.Row.{Row}
+use Rattle.rules.specs.Records.{rowSize}
+use Rattle.rules.specs.Packed.{rowAt, rowsFrom, countOf, rowsOf}
+use Rattle.rules.specs.Checks.{depthOf}
+use Rattle.rules.specs.Ground.{soilOf, soilAt}
+use Rattle.rules.specs.ByRows.{lead, extent}
+use Rattle.rules.proofs.GroundLaws.{soil-here, soil-below}
+use Rattle.rules.proofs.RowLaws.{extent-here, extent-below}
+use Rattle.rules.proofs.PassedLaws.{count-length}
+use Rattle.rules.proofs.SpliceLaws.{depth-parts}
+
+-- r is row i of the rows, and where it ends
+pub record Next (rs : List Row) (i : ℕ) (r : Row) : Type 0 where
+  pub left : drop i rs ≡ r ∷ drop (i + 1) rs
+  pub ends : depthOf (take (i + 1) rs) ≡ depthOf (take i rs) + r .thickness
+  pub inside : depthOf (take (i + 1) rs) ≤ depthOf rs
+
+from-row : (s : List ℕ) (at n i : ℕ) → i < n → drop i (rowsFrom s at n) ≡ rowAt s (at + i * rowSize) ∷ drop (suc i) (rowsFrom s at n)
+unfolding rowsFrom
+from-row s at zero i h = absurd (omega arith)
+from-row s at (suc n) zero h = let e : at ≡ at + 0 * rowSize = omega arith in ap (λ (p : ℕ). rowAt s p ∷ rowsFrom s (at + rowSize) n) e
+from-row s at (suc n) (suc i) h =
+    let e : at + rowSize + i * rowSize ≡ at + suc i * rowSize = omega arith in
+    from-row s (at + rowSize) n i (omega arith) ∙ ap (λ (p : ℕ). rowAt s p ∷ drop (suc i) (rowsFrom s (at + rowSize) n)) e
+
+-- a row read at its place in the log is the next of the rows
+pub row-left : (s : List ℕ) (i : ℕ) (r : Row) → i < countOf s → r ≡ rowAt s (1 + i * rowSize) → Next (rowsOf s) i r
+unfolding rowsOf depthOf
+row-left s i r h e =
+    let rs = rowsOf s in
+    let l : drop i rs ≡ r ∷ drop (i + 1) rs = rw (add-one i, e) (from-row s 1 (countOf s) i h) in
+    record { left = l; ends = omega (arith, depth-parts rs i, depth-parts rs (i + 1), ap depthOf l); inside = omega (arith, depth-parts rs (i + 1)) }
+
+-- past the last row none is left
+module _ (s : List ℕ) (i : ℕ) (h : countOf s ≤ i) where
+  most : length (rowsOf s) ≤ i
+  most = omega (arith, count-length s)
+
+  pub none-left : drop i (rowsOf s) ≡ []
+  none-left = drop-of-length-le (rowsOf s) most
+
+  pub all-taken : depthOf (take i (rowsOf s)) ≡ depthOf (rowsOf s)
+  all-taken = ap depthOf (take-all i (rowsOf s) most)
+
+-- below the first i rows only the others count, of whatever looks past a row above
+left : {A : Type 0} (g : List Row → ℕ → A) → ((r : Row) (rs : List Row) (m : ℕ) → r .thickness ≤ m → g (r ∷ rs) m ≡ g rs (m - r .thickness))
+    → (i : ℕ) (rs : List Row) (m : ℕ) → depthOf (take i rs) ≤ m → g rs m ≡ g (drop i rs) (m - depthOf (take i rs))
+unfolding depthOf
+left g b zero rs m h = let e : m ≡ m - 0 = omega arith in ap (g rs) e
+left g b (suc i) [] m h = let e : m ≡ m - 0 = omega arith in ap (g []) e
+left g b (suc i) (r ∷ rs) m h =
+    let e : m - r .thickness - depthOf (take i rs) ≡ m - (r .thickness + depthOf (take i rs)) = omega arith in
+    b r rs m (omega arith) ∙ left g b i rs (m - r .thickness) (omega arith) ∙ ap (g (drop i rs)) e
+
+-- what the millimetres of a row hold
+module _ {rs : List Row} {i : ℕ} {r : Row} (e : Next rs i r) (m : ℕ) (h : depthOf (take i rs) ≤ m) (l : m < depthOf (take (i + 1) rs)) where
+  abbrev down : ℕ
+  down = m - depthOf (take i rs)
+
+  pub row-soil : soilAt rs m ≡ soilOf r
+  row-soil = left soilAt soil-below i rs m h ∙ ap (λ (y : List Row). soilAt y down) (e .left) ∙ soil-here r (drop (i + 1) rs) down (omega (arith, e .ends))
+
+  pub row-extent : extent rs m ≡ r .thickness - down + lead (soilOf r) (drop (i + 1) rs)
+  row-extent = left extent extent-below i rs m h ∙ ap (λ (y : List Row). extent y down) (e .left) ∙ extent-here r (drop (i + 1) rs) down (omega (arith, e .ends))

@@ -1,0 +1,2 @@
+-- What is found along a log's rows.
+pub mod Strata

@@ -1,2 +1,0 @@
--- A sheet while it is put together.
-pub mod Sheets

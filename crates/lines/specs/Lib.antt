@@ -1,2 +1,0 @@
--- What it is to put a line into a buffer.
-pub mod Lines

@@ -1,3 +1,0 @@
--- Laws of the rows of a log.
-pub mod CheckLaws
-pub mod RowsLaws

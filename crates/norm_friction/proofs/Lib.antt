@@ -1,0 +1,3 @@
+-- Laws of table 7.3, which the proofs of the functions cite.
+pub mod Standings
+pub mod Reading

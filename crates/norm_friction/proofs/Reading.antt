@@ -1,0 +1,68 @@
+-- Friction by 20,000ths of the way down and tenths across is that of the definition.
+use mathlib.Core.Path.{_≡_, sym, _∙_, ap}
+use mathlib.Core.List.{List, []}
+use Prim.Native.Nat.{ℕ, _+_, _*_, _-_, _≤_}
+use native.Mathlib.Nat.{add-mul, mul-comm, mul-sub, mul-right-comm, eq-of-mul-eq-mul-right}
+use native.Mathlib.Omega.{arith}
+use lib.ListN.{getD}
+use Rattle.rules.specs.Tables.{frictionDepths, frictionRows, frictionCell, frictionWeighed, frictionAt, placeOf}
+use Rattle.rules.specs.Bounds.{frictionBound}
+use Rattle.rules.specs.Numbers.{friction, frictionPlace, right}
+use Rattle.rules.specs.declared.Place.{Place}
+use Rattle.rules.specs.declared.Soil.{Soil}
+use Rattle.rules.proofs.TableLaws.{friction-whole}
+use Rattle.norm_columns.specs.declared.Column.{Column}
+use Rattle.norm_columns.specs.Across.{Across}
+use Rattle.norm_places.specs.Standing.{InTable}
+use Rattle.norm_places.proofs.Search.{in-table}
+use Rattle.norm_places.proofs.Weights.{weighed-le, weighed-is, shared}
+use Rattle.norm_friction.specs.declared.Standing.{Standing}
+use Rattle.norm_friction_table.specs.Printed.{headed}
+use Rattle.norm_friction.specs.Standings.{Stands}
+use Rattle.norm_friction.proofs.Standings.{friction-deepens, cells, cell-is}
+
+-- part of n, down of span: the same share
+shares : (n part down span u l : ℕ) → part * span ≡ down * n
+    → ((n - part) * u + part * l) * span ≡ ((span - down) * u + down * l) * n
+shares n part down span u l e =
+    let a : (n - part) * span ≡ (span - down) * n =
+    mul-comm (n - part) span ∙ mul-sub span n part
+    ∙ (rw (mul-comm span n, mul-comm span part, e, mul-comm (span - down) n, mul-sub n span down, mul-comm n down)) in
+    let b : (n - part) * u * span ≡ (span - down) * u * n =
+    mul-right-comm (n - part) u span ∙ ap (λ (x : ℕ). x * u) a ∙ mul-right-comm (span - down) n u in
+    let c : part * l * span ≡ down * l * n = mul-right-comm part l span ∙ ap (λ (x : ℕ). x * l) e ∙ mul-right-comm down n l in
+    rw (add-mul ((n - part) * u) (part * l) span, b, c, add-mul ((span - down) * u) (down * l) n)
+
+-- a row's cells in a column and the next, weighed across
+abbrev along : List (List ℕ) → ℕ → Column → ℕ
+along rows i c = (10 - c .across) * getD (getD rows i []) (c .number + 1) 0 + c .across * getD (getD rows i []) (c .number + 2) 0
+
+along-is : (rows : List (List ℕ)) (i : ℕ) (c : Column) → rows ≡ headed frictionDepths frictionRows → i ≤ 12
+    → along rows i c ≡ (10 - c .across) * frictionCell i (c .number) + c .across * frictionCell i (c .number + 1)
+along-is rows i c e h =
+    let n : c .number + 2 ≡ c .number + 1 + 1 = omega arith in
+    rw (n, cell-is rows i (c .number) e h, cell-is rows i (c .number + 1) e h)
+
+pub friction-is : (s : Soil) (mid : ℕ) (rows : List (List ℕ)) (st : Standing) (c : Column) (upper lower : ℕ)
+    → rows ≡ headed frictionDepths frictionRows → Stands mid st → Across 7 (right s) c
+    → upper ≡ along rows (st .row) c → lower ≡ along rows (st .row + 1) c
+    → (20000 - st .part) * upper + st .part * lower ≡ friction s mid
+unfolding placeOf
+friction-is s mid rows st c upper lower r t k e f =
+    let p : Place = frictionPlace s mid in
+    let w : InTable 11 7 p = in-table frictionDepths 2000 11 friction-deepens 7 mid (right s) in
+    let u : upper ≡ (10 - p .across) * frictionCell (p .row) (p .column) + p .across * frictionCell (p .row) (p .column + 1) =
+    e ∙ along-is rows (st .row) c r (omega arith) ∙ (rw (t .row, k .across, k .number)) in
+    let l : lower ≡ (10 - p .across) * frictionCell (p .row + 1) (p .column) + p .across * frictionCell (p .row + 1) (p .column + 1) =
+    f ∙ along-is rows (st .row + 1) c r (omega arith) ∙ (rw (t .row, k .across, k .number)) in
+    eq-of-mul-eq-mul-right (p .span) (w .weights .some) _ _
+    (shares 20000 (st .part) (p .down) (p .span) upper lower (t .part)
+    ∙ ap (λ (x : ℕ). x * 20000) (weighed-is p _ _ _ _ upper lower u l) ∙ sym (friction-whole s mid))
+
+-- for every soil and depth
+pub friction-most : (s : Soil) (mid : ℕ) → friction s mid ≤ frictionBound
+unfolding friction frictionAt
+friction-most s mid =
+    let p = frictionPlace s mid in
+    shared (frictionWeighed p) (p .span) 1000 20000
+    (weighed-le frictionCell 11 7 100 p (in-table frictionDepths 2000 11 friction-deepens 7 mid (right s)) cells)

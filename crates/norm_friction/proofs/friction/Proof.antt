@@ -1,0 +1,69 @@
+-- The cells of the row above and the row below, weighed across and then down, are the definition's reading.
+use mathlib.Core.Path.{_∙_}
+use Rattle.norm_friction.proofs.Reading.{friction-is, friction-most}
+use borrow.Author.Needs.{needs}
+use Rattle.norm_friction.proofs.friction.Statement.{statement}
+use Rattle.norm_friction.proofs.friction.Tie as tie
+
+stand-requires : tie.Need-stand-requires
+stand-requires c κs = search needs
+
+right-requires : tie.Need-right-requires
+right-requires c κs = search needs
+
+column-for-requires : tie.Need-column-for-requires
+column-for-requires c κs = search needs
+
+mul-along : tie.Need-mul-along
+mul-along c = search needs
+
+index-1-along : tie.Need-index-1-along
+index-1-along c = search needs
+
+along-requires : tie.Need-along-requires
+along-requires c κs = search needs
+
+add-along : tie.Need-add-along
+add-along c = search needs
+
+mul-along-2 : tie.Need-mul-along-2
+mul-along-2 c = search needs
+
+index-1-along-2 : tie.Need-index-1-along-2
+index-1-along-2 c = search needs
+
+along-requires-2 : tie.Need-along-requires-2
+along-requires-2 c κs = search needs
+
+mean-requires : tie.Need-mean-requires
+mean-requires c κs = search needs
+
+returns : tie.Need-returns
+returns c =
+    let upper = c .before .before .before in
+    let column = upper .before .before in
+    let stand = column .before .before in
+    let o = stand .before in
+    let a = o .args in
+    let e =
+    c .mean .ensures .0
+    ∙ friction-is (a .soil) (a .mid) (a .rows .now) _ _ _ _ (o .pre .table) (stand .stand .ensures)
+    (rw (column .before .right .ensures) at (column .column-for .ensures)) (upper .along .ensures .0) (c .before .along2 .ensures .0) in
+    (e, rw e (friction-most (a .soil) (a .mid)))
+
+pub friction-spec : {M : Type 1} → statement M
+friction-spec =
+    tie.close
+    (tie.spec
+    stand-requires
+    right-requires
+    column-for-requires
+    mul-along
+    index-1-along
+    along-requires
+    add-along
+    mul-along-2
+    index-1-along-2
+    along-requires-2
+    mean-requires
+    returns)

@@ -1,2 +1,0 @@
--- Laws of a pile's sides.
-pub mod SideLaws

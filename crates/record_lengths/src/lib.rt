@@ -1,0 +1,45 @@
+// Check 1 in one room: the lengths that lent pieces may have, and the row limit that the length of a log or a slice table tells.
+use rules::LOG_SIZE;
+use rules::MORE_PLACES;
+use rules::PILE_SIZE;
+use rules::ROW_LIMIT;
+use rules::SLICE_SIZE;
+use rules::TABLE_SIZE;
+ghost use mathlib.Core.Path.{_≡_};
+ghost use Prim.Native.Nat.{_≤_};
+ghost use Rattle.rules.specs.Limits.{rowLimit, forms, logSize, tableSize, formBy};
+ghost use Rattle.rules.specs.Calculation.{lengthsWrong};
+
+// The row limit of a log of so many bytes; 0 where no form is that long.
+pub fn row_limit(len: usize) -> usize
+    ensures { λ r. ⌜ (r ≡ formBy logSize forms len) × (r ≤ rowLimit) ⌝ }
+{
+    if len == LOG_SIZE {
+        return ROW_LIMIT;
+    }
+    0
+}
+
+// The row limit that a slice table of so many bytes goes with; 0 where there is none.
+pub fn table_limit(len: usize) -> usize
+    ensures { λ r. ⌜ (r ≡ formBy tableSize forms len) × (r ≤ rowLimit) ⌝ }
+{
+    if len == TABLE_SIZE {
+        return ROW_LIMIT;
+    }
+    0
+}
+
+// Check 1 of a calculation: the log has a form, the pile record its size, and the table goes with the log.
+pub fn lengths_wrong(log: &[u8], pile: &[u8], table: &[u8]) -> bool
+    ensures { λ r. ⌜ r ≡ lengthsWrong (now (log .entry)) (now (pile .entry)) (now (table .entry)) ⌝ }
+{
+    let limit = row_limit(log.len());
+    if limit == 0 {
+        return true;
+    }
+    if pile.len() != PILE_SIZE {
+        return true;
+    }
+    table.len() != (limit + MORE_PLACES) * SLICE_SIZE
+}

@@ -1,0 +1,2 @@
+-- The round trips of a pile record.
+pub mod RoundTrip

@@ -1,0 +1,2 @@
+-- Laws of a row and its bytes.
+pub mod RowLaws

@@ -1,0 +1,3 @@
+-- Laws of bytes as one number, and of records with zeros behind them.
+pub mod PaddedLaws
+pub mod NumberLaws

@@ -1,3 +1,0 @@
--- Laws of tests and of checks in order.
-pub mod PassLaws
-pub mod TestLaws

@@ -1,4 +1,0 @@
--- Laws of the walk along a log's rows.
-pub mod LogLaws
-pub mod GoodLaws
-pub mod RunLaws

@@ -1,0 +1,2 @@
+-- The room for a line, and a sheet while it is put together.
+pub mod Lines

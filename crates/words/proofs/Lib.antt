@@ -1,2 +1,0 @@
--- Laws of records with zeros behind them.
-pub mod PaddedLaws

@@ -1,2 +1,0 @@
--- What is worked out of rows and a pile.
-pub mod Work
