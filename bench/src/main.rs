@@ -1,14 +1,11 @@
 //! Nanoseconds per call: the library through its C door beside a plain calculator
 //! of the same rules, by turns in the same process.
 
-#![deny(unsafe_code)]
+#![forbid(unsafe_code)]
 
-#[cfg(feature = "door")]
-#[allow(unsafe_code)]
-mod door;
 mod plain;
 
-use plain::{Answer, LOG, PILE, TABLE};
+use psamathyr_door::{Answer, LOG_BYTES as LOG, PILE_BYTES as PILE, TABLE_BYTES as TABLE};
 use std::process::ExitCode;
 use std::time::Instant;
 
@@ -28,14 +25,11 @@ const PLAIN: Calculator = Calculator {
     edit: plain::edit,
 };
 
-#[cfg(feature = "door")]
-const LIBRARY: Option<Calculator> = Some(Calculator {
+const LIBRARY: Calculator = Calculator {
     name: "library",
-    calculate: door::calculate,
-    edit: door::edit,
-});
-#[cfg(not(feature = "door"))]
-const LIBRARY: Option<Calculator> = None;
+    calculate: psamathyr_door::calculate,
+    edit: psamathyr_door::edit,
+};
 
 /// Thickness, kind, stored index, saturation.
 type Row = (u64, u64, u64, u64);
@@ -156,15 +150,7 @@ impl Desk {
         let less = if phase < 100 { phase + 1 } else { 199 - phase };
         self.step += 1;
         let row = row_bytes((soil.0 - less, soil.1, soil.2, soil.3));
-        (by.edit)(
-            &mut self.log,
-            &scene.pile,
-            &mut self.table,
-            1,
-            k,
-            0,
-            &row,
-        )
+        (by.edit)(&mut self.log, &scene.pile, &mut self.table, 1, k, 0, &row)
     }
 }
 
@@ -187,13 +173,11 @@ fn same(scene: &Scene) -> bool {
             return false;
         }
         most = most.max(used(&own.table));
-        if let Some(library) = LIBRARY {
-            let reply = other.call(scene, &library);
-            if reply != answer || own != other {
-                println!("{}: call {call} differs", scene.name);
-                println!("  library {reply:?}\n  plain   {answer:?}");
-                return false;
-            }
+        let reply = other.call(scene, &LIBRARY);
+        if reply != answer || own != other {
+            println!("{}: call {call} differs", scene.name);
+            println!("  library {reply:?}\n  plain   {answer:?}");
+            return false;
         }
     }
     if most != scene.slices {
@@ -231,11 +215,7 @@ impl Times {
 }
 
 fn measure(scene: &Scene, repeats: u32, calls: u32) {
-    let mut all: Vec<(Calculator, Desk, Times)> = LIBRARY
-        .into_iter()
-        .chain([PLAIN])
-        .map(|by| (by, Desk::new(scene), Times(Vec::new())))
-        .collect();
+    let mut all = [LIBRARY, PLAIN].map(|by| (by, Desk::new(scene), Times(Vec::new())));
     // Once to warm up, not counted.
     for (by, desk, _) in &mut all {
         Times(Vec::new()).add(scene, desk, by, calls);
@@ -271,16 +251,24 @@ fn measure(scene: &Scene, repeats: u32, calls: u32) {
 /// `count SCENE library|plain CALLS`: just these calls, for a counter of instructions around the process.
 fn count(words: &[String]) -> ExitCode {
     let scenes = scenes();
-    let scene = words.first().and_then(|n| n.parse::<usize>().ok()).and_then(|n| scenes.get(n));
+    let scene = words
+        .first()
+        .and_then(|n| n.parse::<usize>().ok())
+        .and_then(|n| scenes.get(n));
     let by = match words.get(1).map(String::as_str) {
-        Some("library") => LIBRARY,
+        Some("library") => Some(LIBRARY),
         Some("plain") => Some(PLAIN),
         _ => None,
     };
     let calls = words.get(2).and_then(|n| n.parse::<u32>().ok());
     match (scene, by, calls) {
         (Some(scene), Some(by), Some(calls)) => {
-            println!("{} by {}: {}", scene.name, by.name, run(scene, &mut Desk::new(scene), &by, calls));
+            println!(
+                "{} by {}: {}",
+                scene.name,
+                by.name,
+                run(scene, &mut Desk::new(scene), &by, calls)
+            );
             ExitCode::SUCCESS
         }
         _ => ExitCode::FAILURE,
@@ -296,10 +284,7 @@ fn main() -> ExitCode {
     if !scenes.iter().all(same) {
         return ExitCode::FAILURE;
     }
-    match LIBRARY {
-        Some(_) => println!("library and plain calculator give the same"),
-        None => println!("plain calculator alone"),
-    }
+    println!("library and plain calculator give the same");
     for scene in &scenes {
         let calls = if scene.slices > 20 { 500 } else { 2_000 };
         measure(scene, 600, calls);

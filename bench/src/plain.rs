@@ -2,182 +2,25 @@
 
 #![forbid(unsafe_code)]
 
-pub const LOG: usize = 321;
-pub const PILE: usize = 8;
-pub const TABLE: usize = 581;
+mod ground;
+mod tables;
 
-#[repr(C)]
-#[derive(Clone, Copy, Debug, Default, PartialEq, Eq)]
-pub struct Answer {
-    pub refusal: u32,
-    pub row: u32,
-    pub field: u32,
-    pub kept: u32,
-    pub line: u64,
-    pub tip: u64,
-    pub shaft: u64,
-    pub capacity: u64,
-    pub uplift: u64,
-}
+use ground::{change, fresh, ground_of, index_of, kind_of, saturation_of, Ground};
+use psamathyr_door::{Answer, LOG_BYTES as LOG, PILE_BYTES as PILE, TABLE_BYTES as TABLE};
+use tables::{friction, tip_resistance, FACTORS};
 
-impl Answer {
-    const fn no(refusal: u32, row: u32, field: u32) -> Answer {
-        Answer {
-            refusal,
-            row,
-            field,
-            kept: 0,
-            line: 0,
-            tip: 0,
-            shaft: 0,
-            capacity: 0,
-            uplift: 0,
-        }
-    }
-}
-
-/// Friction in kPa; a tenth column repeats the last.
-const FRICTION: [[u8; 10]; 13] = [
-    [35, 23, 15, 12, 8, 4, 4, 3, 2, 2],
-    [42, 30, 21, 17, 12, 7, 5, 4, 4, 4],
-    [48, 35, 25, 20, 14, 8, 7, 6, 5, 5],
-    [53, 38, 27, 22, 16, 9, 8, 7, 5, 5],
-    [56, 40, 29, 24, 17, 10, 8, 7, 6, 6],
-    [58, 42, 31, 25, 18, 10, 8, 7, 6, 6],
-    [62, 44, 33, 26, 19, 10, 8, 7, 6, 6],
-    [65, 46, 34, 27, 19, 10, 8, 7, 6, 6],
-    [72, 51, 38, 28, 20, 11, 8, 7, 6, 6],
-    [79, 56, 41, 30, 20, 12, 8, 7, 6, 6],
-    [86, 61, 44, 32, 20, 12, 8, 7, 6, 6],
-    [93, 66, 47, 34, 21, 12, 9, 8, 7, 7],
-    [100, 70, 50, 36, 22, 13, 9, 8, 7, 7],
-];
-
-/// For each whole metre: the row above, its depth in half millimetres, and 20,000
-/// over the distance to the next row.
-const FRICTION_AT: [(u8, u32, u8); 35] = {
-    const DEPTHS: [u32; 13] = [1, 2, 3, 4, 5, 6, 8, 10, 15, 20, 25, 30, 35];
-    let mut at = [(0, 0, 0); 35];
-    let mut metre = 1;
-    while metre < 35 {
-        let mut row = 0;
-        while DEPTHS[row + 1] <= metre {
-            row += 1;
-        }
-        let apart = DEPTHS[row + 1] - DEPTHS[row];
-        at[metre as usize] = (row as u8, 2_000 * DEPTHS[row], (10 / apart) as u8);
-        metre += 1;
-    }
-    at
-};
-
-/// Tip resistance in kPa; a dash is 0, an eighth column repeats the last.
-const TIP: [[u16; 8]; 10] = [
-    [850, 750, 650, 500, 400, 300, 250, 250],
-    [1000, 850, 750, 650, 500, 400, 350, 350],
-    [1150, 1000, 850, 750, 600, 500, 450, 450],
-    [1350, 1200, 1050, 950, 800, 700, 600, 600],
-    [1550, 1400, 1250, 1100, 950, 800, 700, 700],
-    [1800, 1650, 1500, 1300, 1100, 1000, 800, 800],
-    [2100, 1900, 1700, 1500, 1300, 1150, 950, 950],
-    [2300, 2100, 1900, 1650, 1450, 1250, 1050, 1050],
-    [3300, 3000, 2600, 2300, 2000, 0, 0, 0],
-    [4500, 4000, 3500, 3000, 2500, 0, 0, 0],
-];
-const TIP_DEPTHS: [u32; 10] = [
-    3_000, 5_000, 7_000, 10_000, 12_000, 15_000, 18_000, 20_000, 30_000, 40_000,
-];
-
-const FACTORS: [[u8; 8]; 4] = [
-    [0; 8],
-    [0, 7, 7, 7, 7, 7, 6, 0],
-    [0, 6, 6, 6, 6, 6, 6, 0],
-    [0, 8, 8, 8, 8, 8, 7, 0],
-];
-
-/// The rows of a log: thickness, and kind, index and saturation as one number.
-struct Ground {
-    count: usize,
-    depth: u32,
-    thickness: [u16; 64],
-    soil: [u32; 64],
-}
-
-#[inline]
-fn kind_of(soil: u32) -> u32 {
-    soil >> 15
-}
-
-#[inline]
-fn index_of(soil: u32) -> u32 {
-    (soil >> 7) & 0xFF
-}
-
-#[inline]
-fn saturation_of(soil: u32) -> u32 {
-    soil & 0x7F
-}
-
-/// A row taken apart: the lowest bad field or 0, thickness, soil.
-#[inline]
-fn row_of(bytes: &[u8; 5]) -> (u32, u16, u32) {
-    let thickness = u16::from_be_bytes([bytes[0], bytes[1]]);
-    let low = u32::from_be_bytes([0, bytes[2], bytes[3], bytes[4]]);
-    let soil = low >> 6;
-    let (kind, index) = (kind_of(soil), index_of(soil));
-    let bad = if thickness == 0 || thickness > 60_000 {
-        1
-    } else if kind == 0 || kind == 7 {
-        2
-    } else if (kind <= 3 && index != 100) || index > 200 {
-        3
-    } else if saturation_of(soil) > 100 {
-        4
-    } else if low & 0x3F != 0 {
-        5
-    } else {
-        0
-    };
-    (bad, thickness, soil)
-}
-
-/// The log checks 2 to 4.
-#[inline]
-fn ground_of(log: &[u8; LOG], ground: &mut Ground) -> Result<(), Answer> {
-    let count = log[0] as usize;
-    if count == 0 || count > 64 {
-        return Err(Answer::no(2, 0, 0));
-    }
-    let (used, unused) = log[1..].split_at(5 * count);
-    if unused.iter().fold(0, |all, byte| all | byte) != 0 {
-        return Err(Answer::no(2, 0, 0));
-    }
-    let mut depth = 0;
-    for (place, bytes) in used.chunks_exact(5).enumerate() {
-        let bytes: &[u8; 5] = bytes.try_into().expect("five bytes");
-        let (bad, thickness, soil) = row_of(bytes);
-        if bad != 0 {
-            return Err(Answer::no(3, place as u32 + 1, bad));
-        }
-        ground.thickness[place] = thickness;
-        ground.soil[place] = soil;
-        depth += u32::from(thickness);
-    }
-    if depth > 60_000 {
-        return Err(Answer::no(4, 0, 0));
-    }
-    ground.count = count;
-    ground.depth = depth;
-    Ok(())
-}
-
-#[inline]
-fn fresh() -> Ground {
-    Ground {
-        count: 0,
-        depth: 0,
-        thickness: [0; 64],
-        soil: [0; 64],
+/// A refusal's answer.
+const fn refused(refusal: u32, row: u32, field: u32) -> Answer {
+    Answer {
+        refusal,
+        row,
+        field,
+        kept: 0,
+        line: 0,
+        tip: 0,
+        shaft: 0,
+        capacity: 0,
+        uplift: 0,
     }
 }
 
@@ -188,7 +31,7 @@ pub fn calculate(log: &[u8], pile: &[u8], table: &mut [u8]) -> Answer {
         <&mut [u8; TABLE]>::try_from(table),
     ) {
         (Ok(log), Ok(pile), Ok(table)) => (log, pile, table),
-        _ => return Answer::no(1, 0, 0),
+        _ => return refused(1, 0, 0),
     };
     let mut ground = fresh();
     if let Err(no) = ground_of(log, &mut ground) {
@@ -196,14 +39,10 @@ pub fn calculate(log: &[u8], pile: &[u8], table: &mut [u8]) -> Answer {
     }
     match work_out::<false>(&ground, u64::from_be_bytes(*pile), table) {
         Ok(answer) => answer,
-        Err(number) => {
-            table.fill(0);
-            Answer::no(number & 0xFF, 0, number >> 8)
-        }
+        Err(number) => emptied(table, number),
     }
 }
 
-#[allow(clippy::too_many_arguments)]
 pub fn edit(
     log: &mut [u8],
     pile: &[u8],
@@ -219,104 +58,41 @@ pub fn edit(
         <&mut [u8; TABLE]>::try_from(table),
     ) {
         (Ok(log), Ok(pile), Ok(table)) => (log, pile, table),
-        _ => return Answer::no(1, 0, 0),
+        _ => return refused(1, 0, 0),
     };
-    let brings = kind == 1 || kind == 2;
     let row = match <&[u8; 5]>::try_from(row) {
         Ok(row) => *row,
-        Err(_) if brings => return Answer::no(1, 0, 0),
+        Err(_) if kind == 1 || kind == 2 => return refused(1, 0, 0),
         Err(_) => [0; 5],
     };
     let mut ground = fresh();
     if let Err(no) = ground_of(log, &mut ground) {
         return no;
     }
-    let count = ground.count;
-    let highest = count as u32 + u32::from(kind == 2);
-    let known = (1..=4).contains(&kind) && k >= 1 && k <= highest;
-    if !known
-        || (kind == 3 && count == 1)
-        || (kind == 4 && (x == 0 || x >= u32::from(ground.thickness[k as usize - 1])))
-    {
-        return Answer::no(13, 0, 0);
+    if let Err(no) = change(log, &mut ground, kind, k, x, &row) {
+        return no;
     }
-    if (kind == 2 || kind == 4) && count == 64 {
-        return Answer::no(14, 0, 0);
-    }
-    let place = k as usize - 1;
-    let from = 1 + 5 * place;
-    let end = 1 + 5 * count;
-    if brings {
-        let (bad, thickness, soil) = row_of(&row);
-        if bad != 0 {
-            return Answer::no(3, k, bad);
-        }
-        let gone = if kind == 1 {
-            u32::from(ground.thickness[place])
-        } else {
-            0
-        };
-        let depth = ground.depth - gone + u32::from(thickness);
-        if depth > 60_000 {
-            return Answer::no(4, 0, 0);
-        }
-        ground.depth = depth;
-        if kind == 2 {
-            ground.thickness.copy_within(place..count, place + 1);
-            ground.soil.copy_within(place..count, place + 1);
-            ground.count = count + 1;
-            log.copy_within(from..end, from + 5);
-            log[0] += 1;
-        }
-        ground.thickness[place] = thickness;
-        ground.soil[place] = soil;
-        log[from..from + 5].copy_from_slice(&row);
-    } else if kind == 3 {
-        ground.depth -= u32::from(ground.thickness[place]);
-        ground.thickness.copy_within(place + 1..count, place);
-        ground.soil.copy_within(place + 1..count, place);
-        ground.count = count - 1;
-        log.copy_within(from + 5..end, from);
-        log[end - 5..end].fill(0);
-        log[0] -= 1;
-    } else {
-        ground.thickness.copy_within(place..count, place + 1);
-        ground.soil.copy_within(place..count, place + 1);
-        ground.count = count + 1;
-        ground.thickness[place] = x as u16;
-        ground.thickness[place + 1] -= x as u16;
-        log.copy_within(from..end, from + 5);
-        log[from..from + 2].copy_from_slice(&ground.thickness[place].to_be_bytes());
-        log[from + 5..from + 7].copy_from_slice(&ground.thickness[place + 1].to_be_bytes());
-        log[0] += 1;
-    }
-    match work_out::<true>(&ground, u64::from_be_bytes(*pile), table) {
+    match work_out_again(&ground, u64::from_be_bytes(*pile), table) {
         Ok(answer) => answer,
-        Err(number) => {
-            table.fill(0);
-            Answer::no(number & 0xFF, 0, number >> 8)
-        }
+        Err(number) => emptied(table, number),
     }
 }
 
-/// Friction in 1/200 Pa at a depth in half millimetres.
+/// A refusal of the pile: its number plus 256 times its field, and an empty table.
 #[inline]
-fn friction(middle: u32, column: usize, tenth: u32) -> u32 {
-    let across = |row: usize| {
-        let cells = &FRICTION[row];
-        u32::from(cells[column]) * (10 - tenth) + u32::from(cells[column + 1]) * tenth
-    };
-    if middle <= 2_000 {
-        return across(0) * 20_000;
-    }
-    if middle >= 70_000 {
-        return across(12) * 20_000;
-    }
-    let (row, from, share) = FRICTION_AT[(middle / 2_000) as usize];
-    let (row, share) = (row as usize, u32::from(share));
-    // The distance to the next row is 20,000 / share half millimetres.
-    let (upper, lower) = (across(row), across(row + 1));
-    upper * 20_000 + (lower * share * (middle - from)) - upper * share * (middle - from)
+fn emptied(table: &mut [u8; TABLE], number: u32) -> Answer {
+    table.fill(0);
+    refused(number & 0xFF, 0, number >> 8)
+}
+
+/// The fields of a pile record.
+struct Pile {
+    section: u32,
+    a: u32,
+    b: u32,
+    method: usize,
+    head: u32,
+    tip: u32,
 }
 
 /// Checks 5 to 12 and 15, the slices and the numbers; a refusal is its number
@@ -327,29 +103,31 @@ fn work_out<const KEPT: bool>(
     pile: u64,
     table: &mut [u8; TABLE],
 ) -> Result<Answer, u32> {
+    let pile = pile_of(pile)?;
+    let below = tip_soil(ground, &pile)?;
+    let (sum, kept) = shaft::<KEPT>(ground, &pile, table)?;
+    let resistance = tip_resistance(pile.tip, index_of(below));
+    Ok(numbers(&pile, below, sum / 2_000_000, resistance, kept))
+}
+
+/// The same after an edit.
+fn work_out_again(ground: &Ground, pile: u64, table: &mut [u8; TABLE]) -> Result<Answer, u32> {
+    work_out::<true>(ground, pile, table)
+}
+
+/// Checks 5 and 6.
+#[inline(always)]
+fn pile_of(pile: u64) -> Result<Pile, u32> {
     let section = (pile >> 62) as u32;
     let a = (pile >> 50) as u32 & 0xFFF;
     let b = (pile >> 38) as u32 & 0xFFF;
     let method = (pile >> 36) as usize & 3;
-    let head = (pile >> 20) as u32 & 0xFFFF;
-    let tip = (pile >> 4) as u32 & 0xFFFF;
     match section {
-        1 => {
-            if !(150..=2_000).contains(&a) {
-                return Err(5 + 256 * 2);
-            }
-            if b != 0 {
-                return Err(5 + 256 * 3);
-            }
-        }
-        2 => {
-            if !(300..=4_000).contains(&a) {
-                return Err(5 + 256 * 2);
-            }
-            if !(300..=4_000).contains(&b) {
-                return Err(5 + 256 * 3);
-            }
-        }
+        1 if !(150..=2_000).contains(&a) => return Err(5 + 256 * 2),
+        1 if b != 0 => return Err(5 + 256 * 3),
+        2 if !(300..=4_000).contains(&a) => return Err(5 + 256 * 2),
+        2 if !(300..=4_000).contains(&b) => return Err(5 + 256 * 3),
+        1 | 2 => {}
         _ => return Err(5 + 256),
     }
     if pile & 15 != 0 {
@@ -358,14 +136,28 @@ fn work_out<const KEPT: bool>(
     if method == 0 {
         return Err(6);
     }
+    let head = (pile >> 20) as u32 & 0xFFFF;
+    let tip = (pile >> 4) as u32 & 0xFFFF;
+    Ok(Pile {
+        section,
+        a,
+        b,
+        method,
+        head,
+        tip,
+    })
+}
+
+/// Checks 7 to 12; gives the soil of the millimetre just below the tip.
+#[inline(always)]
+fn tip_soil(ground: &Ground, pile: &Pile) -> Result<u32, u32> {
+    let (head, tip) = (pile.head, pile.tip);
     if head >= tip || !(3_000..=40_000).contains(&tip) {
         return Err(7);
     }
     if ground.depth < tip + 5_000 {
         return Err(8);
     }
-
-    // The stratum with the millimetre just below the tip.
     let mut seat_top = 0;
     let mut bottom = 0;
     let mut below = ground.soil[0];
@@ -384,7 +176,7 @@ fn work_out<const KEPT: bool>(
         return Err(9);
     }
     let seat = tip - seat_top.max(head);
-    if seat < 2_000 || seat < a.max(b) {
+    if seat < 2_000 || seat < pile.a.max(pile.b) {
         return Err(10);
     }
     let index = index_of(below);
@@ -394,46 +186,69 @@ fn work_out<const KEPT: bool>(
     if index > 140 && tip > 20_000 {
         return Err(12);
     }
+    Ok(below)
+}
 
-    // The slices.
-    let factors = &FACTORS[method];
-    let mut sum = 0_u64;
-    let mut slices = 0;
-    let mut kept = 0;
-    let mut row = 0;
-    let mut top = 0;
-    let places = table;
-    while top < tip {
+/// Which column friction is read from, and the tenths towards the next.
+#[inline(always)]
+fn column_of(soil: u32) -> (usize, u32) {
+    let kind = kind_of(soil);
+    let hundredths = if kind <= 3 {
+        10 * (kind - 1)
+    } else {
+        index_of(soil).saturating_sub(120)
+    };
+    ((hundredths / 10) as usize, hundredths % 10)
+}
+
+/// The bytes of a slice.
+#[inline(always)]
+fn slice_bytes(top: u32, thickness: u32, friction: u64, factor: u64) -> [u8; 7] {
+    let number = u64::from(top) << 40 | u64::from(thickness) << 29 | friction << 4 | factor;
+    let [_, bytes @ ..] = number.to_be_bytes();
+    bytes
+}
+
+/// The place of a slice, with check 15.
+#[inline(always)]
+fn place_of(table: &mut [u8; TABLE], slice: usize) -> Result<&mut [u8; 7], u32> {
+    match table.get_mut(7 * slice..7 * slice + 7) {
+        Some(place) => Ok(place.try_into().expect("seven bytes")),
+        None => Err(15),
+    }
+}
+
+/// Check 15 and the slices; gives the sum of friction, thickness and factor, and how many slices were kept.
+#[inline(always)]
+fn shaft<const KEPT: bool>(
+    ground: &Ground,
+    pile: &Pile,
+    table: &mut [u8; TABLE],
+) -> Result<(u64, usize), u32> {
+    let factors = &FACTORS[pile.method];
+    let (mut sum, mut slices, mut kept) = (0, 0, 0);
+    let (mut row, mut top) = (0, 0);
+    while top < pile.tip {
         let soil = ground.soil[row];
         let mut bottom = top;
         while row < ground.count && ground.soil[row] == soil {
             bottom += u32::from(ground.thickness[row]);
             row += 1;
         }
-        let mut at = top.max(head);
-        let end = bottom.min(tip);
+        let mut at = top.max(pile.head);
+        let end = bottom.min(pile.tip);
         top = bottom;
         if at >= end {
             continue;
         }
-        let kind = kind_of(soil);
-        let hundredths = if kind <= 3 {
-            10 * (kind - 1)
-        } else {
-            index_of(soil).saturating_sub(120)
-        };
-        let (column, tenth) = ((hundredths / 10) as usize, hundredths % 10);
-        let factor = u64::from(factors[kind as usize]);
+        let (column, tenth) = column_of(soil);
+        let factor = u64::from(factors[kind_of(soil) as usize]);
         while at < end {
             let thickness = (end - at).min(2_000);
             let friction = u64::from(friction(2 * at + thickness, column, tenth));
             sum += friction * u64::from(thickness) * factor;
-            let number = u64::from(at) << 40 | u64::from(thickness) << 29 | friction << 4 | factor;
-            let place: &mut [u8; 7] = match places.get_mut(7 * slices..7 * slices + 7) {
-                Some(place) => place.try_into().expect("seven bytes"),
-                None => return Err(15),
-            };
-            let [_, bytes @ ..] = number.to_be_bytes();
+            let bytes = slice_bytes(at, thickness, friction, factor);
+            let place = place_of(table, slices)?;
             if KEPT {
                 kept += usize::from(kept == slices && *place == bytes);
             }
@@ -442,25 +257,15 @@ fn work_out<const KEPT: bool>(
             at += thickness;
         }
     }
-    places[7 * slices..].fill(0);
+    table[7 * slices..].fill(0);
+    Ok((sum, kept))
+}
 
-    // Tip resistance in whole Pa.
-    let hundredths = index.saturating_sub(100);
-    let (column, tenth) = ((hundredths / 10) as usize, u64::from(hundredths % 10));
-    let mut row = 0;
-    while row < 8 && TIP_DEPTHS[row + 1] <= tip {
-        row += 1;
-    }
-    let across = |row: usize| {
-        u64::from(TIP[row][column]) * (10 - tenth) + u64::from(TIP[row][column + 1]) * tenth
-    };
-    let apart = u64::from(TIP_DEPTHS[row + 1] - TIP_DEPTHS[row]);
-    let down = u64::from(tip - TIP_DEPTHS[row]);
-    let resistance = (across(row) * (apart - down) + across(row + 1) * down) * 100 / apart;
-
-    let line = sum / 2_000_000;
-    let (a, b) = (u64::from(a), u64::from(b));
-    let (tip_force, shaft) = if section == 1 {
+/// The five numbers, each rounded down.
+#[inline(always)]
+fn numbers(pile: &Pile, below: u32, line: u64, resistance: u64, kept: usize) -> Answer {
+    let (a, b) = (u64::from(pile.a), u64::from(pile.b));
+    let (tip, shaft) = if pile.section == 1 {
         (
             resistance * (a * a * 314_159) / 400_000_000_000,
             line * (a * 314_159) / 100_000_000,
@@ -471,20 +276,21 @@ fn work_out<const KEPT: bool>(
             line * (2 * (a + b)) / 1_000,
         )
     };
-    let both = tip_force + shaft;
-    Ok(Answer {
+    let both = tip + shaft;
+    let tenths = if pile.tip - pile.head < 4_000 { 6 } else { 8 };
+    Answer {
         refusal: 0,
         row: 0,
         field: 0,
         kept: kept as u32,
         line,
-        tip: tip_force,
+        tip,
         shaft,
         capacity: if saturation_of(below) < 90 {
             both * 8 / 10
         } else {
             both
         },
-        uplift: shaft * if tip - head < 4_000 { 6 } else { 8 } / 10,
-    })
+        uplift: shaft * tenths / 10,
+    }
 }

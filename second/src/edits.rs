@@ -7,7 +7,6 @@ use crate::records::{bad_field, depth, log_bytes, row_fields};
 use crate::{Answer, Refusal, Row, ROWS, SLICE};
 
 /// Edits a log (1 replace, 2 insert, 3 remove, 4 split), works it out and fills the table.
-#[allow(clippy::too_many_arguments)]
 pub fn edit(
     log: &mut [u8],
     pile: &[u8],

@@ -67,7 +67,11 @@ pub(crate) fn strata(ground: &[Soil]) -> Vec<Stratum> {
     let mut top = 0;
     while top < ground.len() {
         let soil = ground[top];
-        let bottom = top + ground[top..].iter().take_while(|below| **below == soil).count();
+        let bottom = top
+            + ground[top..]
+                .iter()
+                .take_while(|below| **below == soil)
+                .count();
         all.push(Stratum { soil, top, bottom });
         top = bottom;
     }

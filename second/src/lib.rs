@@ -3,7 +3,7 @@
 //! as text. It is slow on purpose and shares nothing with the library it is
 //! compared with.
 
-#![deny(unsafe_code)]
+#![forbid(unsafe_code)]
 
 mod calculation;
 pub mod cases;
@@ -15,7 +15,6 @@ mod records;
 mod tables;
 
 #[cfg(feature = "door")]
-#[allow(unsafe_code)]
 pub mod door;
 
 #[cfg(test)]
@@ -24,7 +23,8 @@ mod tests;
 pub use calculation::calculate;
 pub use edits::edit;
 pub use records::{
-    pack_log, pack_pile, pile_bytes, read_log, read_pile, read_slice, row_bytes, slice_bytes,
+    pack_log, pack_pile, pile_bytes, read_log, read_pile, read_slice, row_bytes, row_fields,
+    slice_bytes,
 };
 
 /// Length of a log in bytes.

@@ -20,7 +20,8 @@ use compare::meter::Meter;
 use compare::{known, logs, records, seeded};
 use std::process::ExitCode;
 
-const USAGE: &str = "usage: compare [--seed N] [--quick] [--only edits|others] [--null-row] [--trace]
+const USAGE: &str =
+    "usage: compare [--seed N] [--quick] [--only edits|others] [--null-row] [--trace]
   --seed N    another seed for the random cases
   --quick     a tenth of the random cases
   --only W    the runs of edits alone, or all others: two halves that can run side by side
@@ -40,7 +41,14 @@ struct Asked {
 impl Asked {
     /// None if a word is not in the usage.
     fn read(mut words: impl Iterator<Item = String>) -> Option<Asked> {
-        let mut asked = Asked { seed: 20_250_101, quick: false, edits: true, others: true, null_row: false, trace: false };
+        let mut asked = Asked {
+            seed: 20_250_101,
+            quick: false,
+            edits: true,
+            others: true,
+            null_row: false,
+            trace: false,
+        };
         while let Some(word) = words.next() {
             match word.as_str() {
                 "--seed" => asked.seed = words.next()?.parse().ok()?,
@@ -67,7 +75,11 @@ fn main() -> ExitCode {
             return ExitCode::from(2);
         }
     };
-    println!("seed {}{}", asked.seed, if asked.quick { ", quick" } else { "" });
+    println!(
+        "seed {}{}",
+        asked.seed,
+        if asked.quick { ", quick" } else { "" }
+    );
     if run(&asked) {
         ExitCode::SUCCESS
     } else {

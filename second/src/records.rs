@@ -57,7 +57,8 @@ pub fn row_bytes(row: Row) -> [u8; ROW] {
     bytes(together(digits, ROW_WIDTHS))
 }
 
-pub(crate) fn row_fields(packed: &[u8]) -> Row {
+/// A row's fields from its five bytes, whatever they are.
+pub fn row_fields(packed: &[u8]) -> Row {
     let [thickness, kind, index, saturation, zero] = apart(number(packed), ROW_WIDTHS);
     Row {
         thickness: thickness as u16,
@@ -228,8 +229,8 @@ pub fn pack_log(fields: &Log, log: &mut [u8]) -> Answer {
     }
 }
 
-fn packed_log(fields: &Log, room: usize) -> Result<Vec<u8>, Refusal> {
-    if room != LOG {
+fn packed_log(fields: &Log, length: usize) -> Result<Vec<u8>, Refusal> {
+    if length != LOG {
         return Err(Refusal::plain(1));
     }
     let count = usize::from(fields.count);

@@ -13,24 +13,13 @@
 //! assert_eq!(table.slices()[0].friction_200ths_pa, 6_000_000);
 //! ```
 #![deny(missing_docs)]
+#![forbid(unsafe_code)]
 
-mod door;
 mod refusal;
 
+use psamathyr_door as door;
+pub use psamathyr_door::{LOG_BYTES, PILE_BYTES, PLACES, ROWS, ROW_BYTES, TABLE_BYTES};
 pub use refusal::Refusal;
-
-/// Bytes of a log, a pile record, a slice table and a row.
-pub const LOG_BYTES: usize = 321;
-/// Bytes of a pile record.
-pub const PILE_BYTES: usize = 8;
-/// Bytes of a slice table.
-pub const TABLE_BYTES: usize = 581;
-/// Bytes of a packed row.
-pub const ROW_BYTES: usize = 5;
-/// Rows that a log has room for.
-pub const ROWS: usize = 64;
-/// Places of a slice table.
-pub const PLACES: u32 = 83;
 
 /// What stands in a row.
 #[derive(Clone, Copy, Debug, PartialEq, Eq)]
@@ -45,8 +34,8 @@ pub enum Kind {
 }
 
 impl Kind {
-    fn of(n: u8) -> Option<Kind> {
-        Some(match n {
+    fn of(number: u8) -> Option<Kind> {
+        Some(match number {
             1 => Kind::CoarseOrMediumSand,
             2 => Kind::FineSand,
             3 => Kind::SiltySand,
@@ -76,15 +65,21 @@ impl Row {
         // an index that fits no stored number becomes 255, which the core refuses as field 3
         let stored = i32::from(self.index_hundredths) + 100;
         let index = u8::try_from(stored).unwrap_or(255);
-        door::Row { thickness: self.thickness_mm, kind: self.kind as u8, index, saturation: self.saturation_hundredths, zero: 0 }
+        door::Row {
+            thickness: self.thickness_mm,
+            kind: self.kind as u8,
+            index,
+            saturation: self.saturation_hundredths,
+            zero: 0,
+        }
     }
 
-    fn of(r: door::Row) -> Option<Row> {
+    fn of(fields: door::Row) -> Option<Row> {
         Some(Row {
-            thickness_mm: r.thickness,
-            kind: Kind::of(r.kind)?,
-            index_hundredths: i16::from(r.index) - 100,
-            saturation_hundredths: r.saturation,
+            thickness_mm: fields.thickness,
+            kind: Kind::of(fields.kind)?,
+            index_hundredths: i16::from(fields.index) - 100,
+            saturation_hundredths: fields.saturation,
         })
     }
 
@@ -116,14 +111,16 @@ impl Log {
         if rows.len() > ROWS {
             return Err(Refusal::Count);
         }
-        let mut fields = door::Log::empty();
-        fields.count = rows.len() as u8;
+        let mut fields = door::Log {
+            count: rows.len() as u8,
+            ..door::Log::default()
+        };
         for (place, row) in fields.rows.iter_mut().zip(rows) {
             *place = row.fields();
         }
         let mut bytes = [0; LOG_BYTES];
-        let a = door::pack_log(fields, &mut bytes);
-        match Refusal::of(a.refusal, a.row, a.field) {
+        let answer = door::pack_log(fields, &mut bytes);
+        match Refusal::of(answer.refusal, answer.row, answer.field) {
             Some(refusal) => Err(refusal),
             None => Ok(Log { bytes }),
         }
@@ -136,10 +133,13 @@ impl Log {
     /// assert_eq!(Log { bytes: [0; 321] }.rows(), Err(Refusal::Count));
     /// ```
     pub fn rows(&self) -> Result<Vec<Row>, Refusal> {
-        let l = door::read_log(&self.bytes);
-        match Refusal::of(l.refusal, l.row, l.field) {
+        let fields = door::read_log(&self.bytes);
+        match Refusal::of(fields.refusal, fields.row, fields.field) {
             Some(refusal) => Err(refusal),
-            None => Ok(l.rows[..usize::from(l.count)].iter().filter_map(|r| Row::of(*r)).collect()),
+            None => Ok(fields.rows[..usize::from(fields.count)]
+                .iter()
+                .filter_map(|row| Row::of(*row))
+                .collect()),
         }
     }
 }
@@ -202,7 +202,7 @@ impl Pile {
     /// assert_eq!(pile.pack().unwrap().pile().unwrap(), pile);
     /// ```
     pub fn pack(self) -> Result<PileRecord, Refusal> {
-        let mut fields = door::Pile::empty();
+        let mut fields = door::Pile::default();
         match self.section {
             Section::Circle { diameter_mm } => {
                 fields.section = 1;
@@ -218,8 +218,8 @@ impl Pile {
         fields.head = self.head_mm;
         fields.tip = self.tip_mm;
         let mut bytes = [0; PILE_BYTES];
-        let a = door::pack_pile(fields, &mut bytes);
-        match Refusal::of(a.refusal, a.row, a.field) {
+        let answer = door::pack_pile(fields, &mut bytes);
+        match Refusal::of(answer.refusal, answer.row, answer.field) {
             Some(refusal) => Err(refusal),
             None => Ok(PileRecord { bytes }),
         }
@@ -229,20 +229,30 @@ impl Pile {
 impl PileRecord {
     /// The fields.
     pub fn pile(&self) -> Result<Pile, Refusal> {
-        let p = door::read_pile(&self.bytes);
-        if let Some(refusal) = Refusal::of(p.refusal, p.row, p.field) {
+        let fields = door::read_pile(&self.bytes);
+        if let Some(refusal) = Refusal::of(fields.refusal, fields.row, fields.field) {
             return Err(refusal);
         }
-        let section = match p.section {
-            1 => Section::Circle { diameter_mm: p.a },
-            _ => Section::Rectangle { a_mm: p.a, b_mm: p.b },
+        let section = match fields.section {
+            1 => Section::Circle {
+                diameter_mm: fields.a,
+            },
+            _ => Section::Rectangle {
+                a_mm: fields.a,
+                b_mm: fields.b,
+            },
         };
-        let method = match p.method {
+        let method = match fields.method {
             1 => Method::Dry,
             2 => Method::UnderWater,
             _ => Method::Vibrated,
         };
-        Ok(Pile { section, method, head_mm: p.head, tip_mm: p.tip })
+        Ok(Pile {
+            section,
+            method,
+            head_mm: fields.head,
+            tip_mm: fields.tip,
+        })
     }
 }
 
@@ -275,15 +285,22 @@ impl Default for Table {
 impl Table {
     /// An empty table.
     pub fn new() -> Table {
-        Table { bytes: [0; TABLE_BYTES] }
+        Table {
+            bytes: [0; TABLE_BYTES],
+        }
     }
 
     /// The used slices, from the head down.
     pub fn slices(&self) -> Vec<Slice> {
         (0..PLACES)
             .map(|place| door::read_slice(&self.bytes, place))
-            .take_while(|s| s.thickness != 0)
-            .map(|s| Slice { top_mm: s.top, thickness_mm: s.thickness, friction_200ths_pa: s.friction, factor_tenths: s.factor })
+            .take_while(|slice| slice.thickness != 0)
+            .map(|slice| Slice {
+                top_mm: slice.top,
+                thickness_mm: slice.thickness,
+                friction_200ths_pa: slice.friction,
+                factor_tenths: slice.factor,
+            })
             .collect()
     }
 }
@@ -304,10 +321,16 @@ pub struct Numbers {
 }
 
 impl Numbers {
-    fn of(a: &door::Answer) -> Result<Numbers, Refusal> {
-        match Refusal::of(a.refusal, a.row, a.field) {
+    fn of(answer: &door::Answer) -> Result<Numbers, Refusal> {
+        match Refusal::of(answer.refusal, answer.row, answer.field) {
             Some(refusal) => Err(refusal),
-            None => Ok(Numbers { line_n_per_m: a.line, tip_n: a.tip, shaft_n: a.shaft, capacity_n: a.capacity, uplift_n: a.uplift }),
+            None => Ok(Numbers {
+                line_n_per_m: answer.line,
+                tip_n: answer.tip,
+                shaft_n: answer.shaft,
+                capacity_n: answer.capacity,
+                uplift_n: answer.uplift,
+            }),
         }
     }
 }
@@ -372,17 +395,34 @@ pub struct Edited {
 /// assert_eq!(split.kept, 5);
 /// assert_eq!(edit(&mut log, &pile, &mut table, Edit::Remove { k: 3 }), Err(Refusal::NoSuchEdit));
 /// ```
-pub fn edit(log: &mut Log, pile: &PileRecord, table: &mut Table, change: Edit) -> Result<Edited, Refusal> {
+pub fn edit(
+    log: &mut Log,
+    pile: &PileRecord,
+    table: &mut Table,
+    change: Edit,
+) -> Result<Edited, Refusal> {
     let (kind, k, x, row) = match change {
         Edit::Replace { k, row } => (1, k, 0, Some(row)),
         Edit::Insert { k, row } => (2, k, 0, Some(row)),
         Edit::Remove { k } => (3, k, 0, None),
         Edit::Split { k, x_mm } => (4, k, x_mm, None),
     };
-    let row: &[u8] = row.as_ref().map_or(&[], |r| r);
-    let a = door::edit(&mut log.bytes, &pile.bytes, &mut table.bytes, kind, k, x, row);
-    match a.refusal {
-        1..=4 | 13 | 14 => Err(Refusal::of(a.refusal, a.row, a.field).unwrap_or(Refusal::Other(a.refusal))),
-        _ => Ok(Edited { answer: Numbers::of(&a), kept: a.kept }),
+    let row: &[u8] = row.as_ref().map_or(&[], |bytes| bytes);
+    let answer = door::edit(
+        &mut log.bytes,
+        &pile.bytes,
+        &mut table.bytes,
+        kind,
+        k,
+        x,
+        row,
+    );
+    match answer.refusal {
+        1..=4 | 13 | 14 => Err(Refusal::of(answer.refusal, answer.row, answer.field)
+            .unwrap_or(Refusal::Other(answer.refusal))),
+        _ => Ok(Edited {
+            answer: Numbers::of(&answer),
+            kept: answer.kept,
+        }),
     }
 }

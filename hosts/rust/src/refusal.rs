@@ -66,7 +66,7 @@ impl Refusal {
             13 => Refusal::NoSuchEdit,
             14 => Refusal::Full,
             15 => Refusal::TooManySlices,
-            n => Refusal::Other(n),
+            number => Refusal::Other(number),
         })
     }
 
@@ -88,7 +88,7 @@ impl Refusal {
             Refusal::NoSuchEdit => 13,
             Refusal::Full => 14,
             Refusal::TooManySlices => 15,
-            Refusal::Other(n) => n,
+            Refusal::Other(number) => number,
         }
     }
 }
@@ -97,15 +97,23 @@ impl fmt::Display for Refusal {
     fn fmt(&self, f: &mut fmt::Formatter<'_>) -> fmt::Result {
         match self {
             Refusal::Length => write!(f, "a lent piece has the wrong length"),
-            Refusal::Count => write!(f, "no row, more than 64 rows, or an unused row place that is not zero"),
+            Refusal::Count => write!(
+                f,
+                "no row, more than 64 rows, or an unused row place that is not zero"
+            ),
             Refusal::Field { row, field } => write!(f, "row {row}, field {field} is out of range"),
             Refusal::TooDeep => write!(f, "the log is deeper than 60,000 mm"),
             Refusal::Section { field: 1 } => write!(f, "no such section"),
-            Refusal::Section { field: 2 } => write!(f, "the diameter or first side is out of range"),
+            Refusal::Section { field: 2 } => {
+                write!(f, "the diameter or first side is out of range")
+            }
             Refusal::Section { field: 3 } => write!(f, "the second side is out of range"),
             Refusal::Section { .. } => write!(f, "the pile record's zero bits are not zero"),
             Refusal::Method => write!(f, "no such method"),
-            Refusal::Depths => write!(f, "the head is not above the tip, or the tip is under 3,000 or over 40,000 mm"),
+            Refusal::Depths => write!(
+                f,
+                "the head is not above the tip, or the tip is under 3,000 or over 40,000 mm"
+            ),
             Refusal::LogShort => write!(f, "the log ends less than 5,000 mm below the tip"),
             Refusal::SandTip => write!(f, "sand stands just below the tip"),
             Refusal::SeatShort => write!(f, "the seat in the tip stratum is too short"),
@@ -114,7 +122,7 @@ impl fmt::Display for Refusal {
             Refusal::NoSuchEdit => write!(f, "no such edit, row or split point"),
             Refusal::Full => write!(f, "the log has no place for another row"),
             Refusal::TooManySlices => write!(f, "the shaft needs more than 83 slices"),
-            Refusal::Other(n) => write!(f, "refusal {n}"),
+            Refusal::Other(number) => write!(f, "refusal {number}"),
         }
     }
 }

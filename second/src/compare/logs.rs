@@ -162,37 +162,37 @@ fn read_seeded(meter: &mut Meter, seed: u64, cases: u64) {
 fn pack_lengths(meter: &mut Meter, dice: &mut Dice) {
     for len in 0..=330 {
         meter.case(format!("length {len}"));
-        let room = dice.bytes(len);
+        let buffer = dice.bytes(len);
         let site = good(dice);
         let fields = log_fields(dice, &site.rows);
-        meter.pack_log(&fields, &room);
+        meter.pack_log(&fields, &buffer);
         let fields = log_fields(dice, &[Row::default()]);
-        meter.pack_log(&fields, &room);
+        meter.pack_log(&fields, &buffer);
     }
 }
 
 fn pack_counts(meter: &mut Meter, dice: &mut Dice, rows: &[Row]) {
     for count in 0..=255 {
         meter.case(format!("count {count}"));
-        let room = dice.bytes(LOG);
+        let buffer = dice.bytes(LOG);
         let mut full = log_fields(dice, rows);
         full.count = count;
-        meter.pack_log(&full, &room);
+        meter.pack_log(&full, &buffer);
         for row in full.rows.iter_mut().skip(usize::from(count)) {
             *row = Row::default();
         }
-        meter.pack_log(&full, &room);
+        meter.pack_log(&full, &buffer);
         if usize::from(count) < ROWS {
-            pack_beyond(meter, dice, &full, &room);
+            pack_beyond(meter, dice, &full, &buffer);
         }
         let mut empty = log_fields(dice, &[]);
         empty.count = count;
-        meter.pack_log(&empty, &room);
+        meter.pack_log(&empty, &buffer);
     }
 }
 
 /// One field of one row beyond the count is not zero.
-fn pack_beyond(meter: &mut Meter, dice: &mut Dice, full: &Log, room: &[u8]) {
+fn pack_beyond(meter: &mut Meter, dice: &mut Dice, full: &Log, buffer: &[u8]) {
     let spot = dice.between(u32::from(full.count), 63) as usize;
     for field in 0..5 {
         let mut full = full.clone();
@@ -204,7 +204,7 @@ fn pack_beyond(meter: &mut Meter, dice: &mut Dice, full: &Log, room: &[u8]) {
             3 => row.saturation = dice.one_of(&[1, 128, 255]),
             _ => row.zero = dice.one_of(&[1, 64, 255]),
         }
-        meter.pack_log(&full, room);
+        meter.pack_log(&full, buffer);
     }
 }
 
@@ -214,11 +214,11 @@ fn pack_rows(meter: &mut Meter, dice: &mut Dice, full: &[Row], around: &[Row]) {
         for place in [0, 1, dice.below(64) as usize, 63] {
             let mut rows = full.to_vec();
             rows[place] = *row;
-            let room = dice.bytes(LOG);
+            let buffer = dice.bytes(LOG);
             let fields = log_fields(dice, &rows);
-            meter.pack_log(&fields, &room);
+            meter.pack_log(&fields, &buffer);
             let fields = log_fields(dice, &rows[..=place]);
-            let (answer, packed) = meter.pack_log(&fields, &room);
+            let (answer, packed) = meter.pack_log(&fields, &buffer);
             there_and_back(meter, &fields, answer, &packed);
         }
     }
@@ -243,8 +243,8 @@ fn pack_seeded(meter: &mut Meter, seed: u64, cases: u64) {
                 zero: dice.byte(),
             };
         }
-        let room = dice.bytes(LOG);
-        let (answer, packed) = meter.pack_log(&fields, &room);
+        let buffer = dice.bytes(LOG);
+        let (answer, packed) = meter.pack_log(&fields, &buffer);
         there_and_back(meter, &fields, answer, &packed);
     }
 }

@@ -105,15 +105,15 @@ fn next_soil(dice: &mut Dice, before: Option<Row>) -> Row {
     }
 }
 
-/// Rows that fill a depth, not more of them than there is room for.
-fn layers(dice: &mut Dice, depth: u32, room: usize) -> Vec<Row> {
+/// Rows that fill a depth, at most so many.
+fn layers(dice: &mut Dice, depth: u32, places: usize) -> Vec<Row> {
     let style = dice.below(6);
     let palette = [any_soil(dice), any_soil(dice)];
     let mut rows: Vec<Row> = Vec::new();
     let mut left = depth;
     while left > 0 {
         let thickness = match style {
-            _ if rows.len() + 1 >= room => left,
+            _ if rows.len() + 1 >= places => left,
             0 | 1 => dice.between(100, 6_000),
             2 => dice.between(1, 50),
             3 => dice.one_of(&[1, 1_999, 2_000, 2_001, 3_999, 4_000, 4_001]),
@@ -242,19 +242,19 @@ fn ground(dice: &mut Dice, tip: u32, top: u32) -> Vec<Row> {
         1 => dice.between(tip + 1, depth),
         _ => depth,
     };
-    let room = if dice.once_in(3) {
+    let places = if dice.once_in(3) {
         62
     } else {
         dice.between(1, 12) as usize
     };
-    let mut rows = layers(dice, top, room);
+    let mut rows = layers(dice, top, places);
     rows.push(Row {
         thickness: (under - top) as u16,
         ..tip_soil(dice, tip)
     });
     if under < depth {
-        let room = (ROWS - rows.len()).min(4);
-        rows.extend(layers(dice, depth - under, room));
+        let places = (ROWS - rows.len()).min(4);
+        rows.extend(layers(dice, depth - under, places));
     }
     match dice.below(4) {
         0 => cut(dice, &mut rows, ROWS),

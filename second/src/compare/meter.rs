@@ -244,30 +244,30 @@ impl Meter {
         own
     }
 
-    pub fn pack_log(&mut self, fields: &Log, room: &[u8]) -> (Answer, Vec<u8>) {
-        self.packing(fields, room, second::pack_log, door::pack_log)
+    pub fn pack_log(&mut self, fields: &Log, buffer: &[u8]) -> (Answer, Vec<u8>) {
+        self.packing(fields, buffer, second::pack_log, door::pack_log)
     }
 
-    pub fn pack_pile(&mut self, fields: &Pile, room: &[u8]) -> (Answer, Vec<u8>) {
-        self.packing(fields, room, second::pack_pile, door::pack_pile)
+    pub fn pack_pile(&mut self, fields: &Pile, buffer: &[u8]) -> (Answer, Vec<u8>) {
+        self.packing(fields, buffer, second::pack_pile, door::pack_pile)
     }
 
     fn packing<T: Debug>(
         &mut self,
         fields: &T,
-        room: &[u8],
+        buffer: &[u8],
         own: impl FnOnce(&T, &mut [u8]) -> Answer,
         through: impl FnOnce(&T, &mut [u8]) -> Answer,
     ) -> (Answer, Vec<u8>) {
-        let mut packed = room.to_vec();
+        let mut packed = buffer.to_vec();
         let own = own(fields, &mut packed);
         self.guarded = !self.guarded;
-        let mut held = Held::new(room, self.guarded);
-        self.before(|| format!("  fields {fields:?}\n  lent {}", hex(room)));
+        let mut held = Held::new(buffer, self.guarded);
+        self.before(|| format!("  fields {fields:?}\n  lent {}", hex(buffer)));
         let reply = through(fields, held.piece());
         let same = reply == own && held.back() == Some(&packed[..]);
         self.count(same, || {
-            let mut text = format!("  fields {fields:?}\n  lent {}\n", hex(room));
+            let mut text = format!("  fields {fields:?}\n  lent {}\n", hex(buffer));
             text += &replies(&reply, &own);
             match held.back() {
                 Some(bytes) => text += &format!("  library left {}\n", hex(bytes)),

@@ -32,14 +32,14 @@ pub fn piles(meter: &mut Meter, seed: u64, cases: u64) {
     for len in 0..=12 {
         meter.case(format!("length {len}"));
         for pile in [good(dice).pile, good(dice).pile, Pile::default()] {
-            let room = dice.bytes(len);
-            meter.pack_pile(&pile, &room);
+            let buffer = dice.bytes(len);
+            meter.pack_pile(&pile, &buffer);
         }
     }
     for pile in &around {
         meter.case(format!("{pile:?}"));
-        let room = dice.bytes(PILE);
-        pack_and_read(meter, dice, pile, &room);
+        let buffer = dice.bytes(PILE);
+        pack_and_read(meter, dice, pile, &buffer);
     }
     pack_seeded(meter, seed, cases);
 }
@@ -92,19 +92,19 @@ fn pack_seeded(meter: &mut Meter, seed: u64, cases: u64) {
             6 => pile.zero = dice.byte(),
             _ => {}
         }
-        let room = dice.bytes(PILE);
-        pack_and_read(meter, dice, &pile, &room);
+        let buffer = dice.bytes(PILE);
+        pack_and_read(meter, dice, &pile, &buffer);
     }
 }
 
-fn pack_and_read(meter: &mut Meter, dice: &mut Dice, pile: &Pile, room: &[u8]) {
+fn pack_and_read(meter: &mut Meter, dice: &mut Dice, pile: &Pile, buffer: &[u8]) {
     let asked = Pile {
         refusal: dice.below(20),
         row: dice.below(70),
         field: dice.below(7),
         ..*pile
     };
-    let (answer, packed) = meter.pack_pile(&asked, room);
+    let (answer, packed) = meter.pack_pile(&asked, buffer);
     if answer.refusal == 0 {
         let back = meter.read_pile(&packed);
         let same = back

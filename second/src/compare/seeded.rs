@@ -245,9 +245,9 @@ fn lent_to_edit(dice: &mut Dice, site: &Site) -> Lending {
 /// Draws the lowest row down, so that edits above do not leave the log too short.
 fn deepen(dice: &mut Dice, rows: &mut [Row]) {
     let depth: u32 = rows.iter().map(|row| u32::from(row.thickness)).sum();
-    let room = 60_000_u32.saturating_sub(depth).min(10_000);
+    let spare = 60_000_u32.saturating_sub(depth).min(10_000);
     if let Some(last) = rows.last_mut() {
-        let thickness = u32::from(last.thickness) + dice.between(room / 2, room);
+        let thickness = u32::from(last.thickness) + dice.between(spare / 2, spare);
         last.thickness = thickness.min(60_000) as u16;
     }
 }
