@@ -11,12 +11,14 @@ use Rattle.rules.specs.Base.{refuse, refuses, when, first}
 use Rattle.rules.specs.Records.{pileSize}
 use Rattle.rules.specs.Limits.{limitOf, rowLimit, tableSize}
 use Rattle.rules.specs.Packed.{rowsOf, pileOf, tableBytes}
-use Rattle.rules.specs.Checks.{longOther, formless, depthOf, contentChecks, logChecks, Passed}
+use Rattle.rules.specs.Ground.{depthOf}
+use Rattle.rules.specs.Checks.{longOther, formless, Passed, lengthsWrong, lentChecks}
 use Rattle.rules.specs.Answers.{refused}
-use Rattle.rules.specs.Calculation.{slicesOfRows, freshAnswer, freshTable, lengthsWrong, lentChecks, calculated, tableAfter}
+use Rattle.rules.specs.Calculation.{heldSlicesOf, freshAnswer, freshTable, calculated, tableAfter}
+use Rattle.rules.proofs.Groups.{contentChecks, lent-grouped, log-grouped}
 use Rattle.rules.proofs.RefusalLaws.{either-left, either-right, right-long}
-use Rattle.record_logs.specs.declared.Checked.{Checked}
-use Rattle.record_logs.specs.Checks.{contentChecked}
+use Rattle.record_log_checks.specs.declared.Checked.{Checked}
+use Rattle.record_log_checks.specs.Checks.{contentChecked}
 use Rattle.answer_work.proofs.WorkLaws.{on, off}
 use Rattle.answer_work.proofs.SliceLaws.{table-room}
 
@@ -44,8 +46,8 @@ long log pile table h =
 -- and what checks 2 to 4 tell then
 module _ {log pile table : List ℕ} (l : Long log pile table) {r : Checked} (e : r ≡ contentChecked log) where
   checks : lentChecks log pile table ≡ r .refusal
-  unfolding lentChecks contentChecked first when
-  checks = rw (l .right, e)
+  unfolding contentChecked first when
+  checks = rw (lent-grouped log pile table, l .right, e)
 
   pub log-refused : (r .refusal .number ≡ 0 → ⊥) → (refused (r .refusal) ≡ calculated log pile table) × (table ≡ tableAfter log pile table)
   unfolding calculated tableAfter
@@ -57,10 +59,10 @@ module _ {log pile table : List ℕ} (l : Long log pile table) {r : Checked} (e 
     clear = rw e at (off (r .refusal .number) z)
 
     pub ready : Passed log × (r .depth ≡ depthOf (rowsOf log)) × (tableSize rowLimit ≤ length table)
-    unfolding logChecks contentChecked first when
-    ready = (rw (l .formed) clear, rw (e, clear), table-room log table (l .form) (l .size))
+    unfolding contentChecked first when
+    ready = (rw (log-grouped log, l .formed) clear, rw (e, clear), table-room log table (l .form) (l .size))
 
-    pub worked : (a : Answer) (after : List ℕ) → a ≡ freshAnswer log pile → after ≡ tableBytes (length table) (slicesOfRows (rowsOf log) (pileOf pile))
+    pub worked : (a : Answer) (after : List ℕ) → a ≡ freshAnswer log pile → after ≡ tableBytes (length table) (heldSlicesOf (rowsOf log) (pileOf pile))
         → (a ≡ calculated log pile table) × (after ≡ tableAfter log pile table)
     unfolding calculated tableAfter freshTable
     worked a after f g = (rw (checks, off (r .refusal .number) z) f, rw (checks, off (r .refusal .number) z) (rw (l .size) at g))

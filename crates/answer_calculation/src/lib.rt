@@ -3,7 +3,7 @@ use answer_work::work_out;
 use base_replies::refuse;
 use base_replies::refused;
 use record_lengths::lengths_wrong;
-use record_logs::check_content;
+use record_log_checks::check_content;
 ghost use mathlib.Core.Path.{_≡_};
 ghost use Rattle.rules.specs.Calculation.{calculated, tableAfter};
 use rules::Answer;

@@ -2,11 +2,11 @@
 use base_order::larger;
 ghost use mathlib.Core.Path.{_≡_};
 ghost use Prim.Native.Nat.{_≤_};
-ghost use Rattle.rules.specs.Answers.{seatShort};
+ghost use Rattle.rules.specs.Checks.{seatShort};
 use rules::Pile;
 
 // By the top of the tip's stratum.
-pub fn seat_short(pile: Pile, top: u64) -> bool
+pub(crate) fn seat_short(pile: Pile, top: u64) -> bool
     requires { ⌜ (pile .head ≤ pile .tip) × (top ≤ pile .tip) ⌝ }
     ensures { λ r. ⌜ r ≡ seatShort top pile ⌝ }
 {

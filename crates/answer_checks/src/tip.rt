@@ -5,7 +5,7 @@ ghost use mathlib.Core.Path.{_≡_};
 ghost use Prim.Native.Nat.{_≤_};
 ghost use Rattle.rules.specs.Base as base;
 ghost use Rattle.rules.specs.Numbers.{tipOf, tipRead};
-ghost use Rattle.rules.specs.Answers.{late};
+ghost use Rattle.rules.proofs.Groups.{late};
 use rules::Pile;
 use rules::Soil;
 use rules::TipRead;
@@ -18,10 +18,12 @@ pub fn tip_refusal(pile: Pile, soil: Soil, top: u64, read: TipRead) -> u32
     if soil.kind <= 3 {
         return 9;
     }
-    if seat_short(pile, top) {
+    let short = seat_short(pile, top);
+    let soft = 160 < soil.index;
+    if short {
         return 10;
     }
-    if 160 < soil.index {
+    if soft {
         return 11;
     }
     if is_dash(read) {

@@ -8,16 +8,17 @@ use lib.Dec.{eqb}
 use borrow.Author.Tests.{eq-eqb, eqb-true}
 use Rattle.rules.specs.declared.Pile.{Pile}
 use Rattle.rules.specs.Base.{pick, within, nothing, refuses, when}
-use Rattle.rules.specs.Checks.{aRight, bRight, methodWrong, wrongPart, sectionCheck, pileChecks}
+use Rattle.rules.specs.Checks.{aInRange, bInRange, methodWrong, wrongPileField, sectionCheck}
+use Rattle.rules.proofs.Groups.{pileChecks}
 use Rattle.rules.proofs.RefusalLaws.{first-off, within-high, none-picked, not-picked}
 use Rattle.answer_numbers.specs.Sides.{Sides}
 
-part-sides : (p : Pile) → wrongPart p ≡ 0 → Sides p
-unfolding wrongPart
+part-sides : (p : Pile) → wrongPileField p ≡ 0 → Sides p
+unfolding wrongPileField
 part-sides p e =
     let one = none-picked (within 1 2 (p .section)) _ 0 e in
-    let two = none-picked (aRight p) _ 1 (one .1) in
-    go (eqb (p .section) 1) refl (two .0) (none-picked (bRight p) _ 2 (two .1) .0)
+    let two = none-picked (aInRange p) _ 1 (one .1) in
+    go (eqb (p .section) 1) refl (two .0) (none-picked (bInRange p) _ 2 (two .1) .0)
   where
     go : (t : Bool) → eqb (p .section) 1 ≡ t → pick t (within 150 2000 (p .a)) (within 300 4000 (p .a)) ≡ true → pick t (eqb (p .b) 0) (within 300 4000 (p .b)) ≡ true → Sides p
     go true q x y =
@@ -31,7 +32,7 @@ part-sides p e =
 
 pub sides : (p : Pile) → refuses (pileChecks p) ≡ false → Sides p
 unfolding pileChecks sectionCheck
-sides p e = part-sides p (not-picked (wrongPart p) _ nothing refl (first-off (sectionCheck p) (when (methodWrong p) 6) e .0) .0)
+sides p e = part-sides p (not-picked (wrongPileField p) _ nothing refl (first-off (sectionCheck p) (when (methodWrong p) 6) e .0) .0)
 
 -- a number of at most m, times the sides
 module _ {p : Pile} {n m : ℕ} (h : Sides p × (n ≤ m)) where

@@ -2,8 +2,8 @@
 use base_replies::refuse;
 ghost use mathlib.Core.Path.{_≡_};
 ghost use Prim.Native.Nat.{_+_, _/_, _≤_};
-ghost use Rattle.rules.specs.Numbers.{tipForce, shaftForce, capacityOf, upliftOf};
 ghost use Rattle.rules.specs.Bounds.{resistanceBound, sumBound, lineBound, forceBound};
+ghost use Rattle.rules.specs.Numbers.{tipForce, shaftForce, capacityOf, upliftOf};
 ghost use Rattle.rules.specs.Answers as answers;
 ghost use Rattle.answer_numbers.specs.Sides.{Sides};
 use rules::Answer;
@@ -73,6 +73,8 @@ pub fn five_numbers(soil: Soil, pile: Pile, r: u64, line: u64) -> Answer
 {
     let tip = tip_force(pile, r);
     let shaft = shaft_force(pile, line);
+    let whole = capacity(soil, tip + shaft);
+    let pull = uplift(pile, shaft);
     let refusal = refuse(0);
     Answer {
         refusal: refusal,
@@ -80,7 +82,7 @@ pub fn five_numbers(soil: Soil, pile: Pile, r: u64, line: u64) -> Answer
         line: line,
         tip: tip,
         shaft: shaft,
-        capacity: capacity(soil, tip + shaft),
-        uplift: uplift(pile, shaft),
+        capacity: whole,
+        uplift: pull,
     }
 }

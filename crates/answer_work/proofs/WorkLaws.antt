@@ -19,12 +19,13 @@ use Rattle.rules.specs.declared.TipRead.{TipRead}
 use Rattle.rules.specs.Base.{pick, refuse, refuses, when, first}
 use Rattle.rules.specs.Limits.{placeLimit}
 use Rattle.rules.specs.Packed.{rowsOf, pileOf, tableBytes}
-use Rattle.rules.specs.Checks.{pileChecks, depthOf}
-use Rattle.rules.specs.Ground.{same, soilAt}
+use Rattle.rules.specs.Ground.{depthOf, same, soilAt}
 use Rattle.rules.specs.Pieces.{runTop}
-use Rattle.rules.specs.Numbers.{tipOf, tipRead, pascals, resistance, total}
-use Rattle.rules.specs.Answers.{early, late, tooMany, checksFrom, refused, numbers, answerFrom, slicesFrom, answer, slices}
-use Rattle.rules.specs.Calculation.{answerOf, slicesOfRows, freshAnswer}
+use Rattle.rules.specs.Numbers.{tipOf, tipRead, pascals, resistance, frictionSum}
+use Rattle.rules.specs.Checks.{tooMany, groundChecks}
+use Rattle.rules.specs.Answers.{refused, numbers, answer, heldSlices}
+use Rattle.rules.specs.Calculation.{answerOf, heldSlicesOf, freshAnswer}
+use Rattle.rules.proofs.Groups.{pileChecks, early, late, checksFrom, ground-grouped}
 use Rattle.rules.proofs.Basics.{sure}
 use Rattle.rules.proofs.RefusalLaws.{first-left, first-right, when-true, when-false}
 use Rattle.record_slice_table.proofs.TableLaws.{filled-none}
@@ -43,7 +44,7 @@ off n h = le-ltb 0 n (omega arith)
 
 -- a shaft with places for its slices, and one without
 module _ (cs : List Slice) (c : Shaft) (e : c ≡ shaftOf cs) where
-  by-test : (t : Bool) → tooMany (length cs) ≡ t → c ≡ pick t noShaft (record { used = length cs; total = total cs })
+  by-test : (t : Bool) → tooMany (length cs) ≡ t → c ≡ pick t noShaft (record { used = length cs; sum = frictionSum cs })
   unfolding shaftOf
   by-test t q = rw q at e
 
@@ -53,7 +54,7 @@ module _ (cs : List Slice) (c : Shaft) (e : c ≡ shaftOf cs) where
       (λ f. absurd (omega (arith, ap (λ (x : Shaft). x .used) (by-test false f), ltb-false placeLimit (length cs) f)))
       (sure (tooMany (length cs)))
 
-  shaft-few : c .used ≤ placeLimit → (tooMany (length cs) ≡ false) × (c ≡ record { used = length cs; total = total cs })
+  shaft-few : c .used ≤ placeLimit → (tooMany (length cs) ≡ false) × (c ≡ record { used = length cs; sum = frictionSum cs })
   shaft-few h = ⊎-elim (λ t. absurd (omega (arith, ap (λ (x : Shaft). x .used) (by-test true t)))) (λ f. (f, by-test false f)) (sure (tooMany (length cs)))
 
 top-le : (g : ℕ → Soil) (s : Soil) (n : ℕ) → runTop g s n ≤ n
@@ -75,7 +76,7 @@ early-is depth p r own deep n f o d e = rw (f, o, d, e)
 
 -- the answer, how many slices it has, and the table: what is to be worked out
 abbrev pub Right : List Row → Pile → ℕ → Answer → ℕ → List ℕ → Type 0
-Right rs p size a used bytes = ((a ≡ answerOf rs p) × (used ≡ length (slicesOfRows rs p))) × (bytes ≡ tableBytes size (slicesOfRows rs p))
+Right rs p size a used bytes = ((a ≡ answerOf rs p) × (used ≡ length (heldSlicesOf rs p))) × (bytes ≡ tableBytes size (heldSlicesOf rs p))
 
 -- and what a refusal leaves
 abbrev pub Cleared : Refusal → ℕ → Answer → ℕ → List ℕ → Type 0
@@ -92,14 +93,14 @@ module _ (rs : List Row) (p : Pile) (size : ℕ) where
   cut = cutOf rs p
 
   abbrev checks : Refusal
-  checks = checksFrom (depthOf rs) below top cut p
+  checks = groundChecks (soilAt rs) (depthOf rs) p
 
   -- what refusal r leaves is what is to be worked out
   abbrev pub Decides : Refusal → Type 0
   Decides r = (a : Answer) (used : ℕ) (bytes : List ℕ) → Cleared r size a used bytes → Right rs p size a used bytes
 
   decides : (r c : Refusal) → r ≡ c → refuses r ≡ true → (refuses c ≡ true → checks ≡ c) → Decides r
-  unfolding answerOf answer answerFrom slicesOfRows slices slicesFrom
+  unfolding answerOf answer heldSlicesOf heldSlices
   decides r c e h k a used bytes w =
       let q : checks ≡ r = k (ap refuses (sym e) ∙ h) ∙ sym e in
       ((w .0 .0 ∙ rw (q, h), w .0 .1 ∙ rw (q, h)), w .1 ∙ rw (q, h) (filled-none size .1))
@@ -108,7 +109,7 @@ module _ (rs : List Row) (p : Pile) (size : ℕ) where
   module _ (r : Refusal) (e : r ≡ early (depthOf rs) p) where
     pub no-early : (r .number ≡ 0 → ⊥) → Decides r
     unfolding checksFrom
-    no-early n = decides r _ e (on (r .number) n) (λ h. first-left _ _ h)
+    no-early n = decides r _ e (on (r .number) n) (λ h. ground-grouped (soilAt rs) (depthOf rs) p ∙ first-left _ _ h)
 
     pub past-early : r .number ≡ 0 → refuses (early (depthOf rs) p) ≡ false
     past-early z = ap refuses (sym e) ∙ off (r .number) z
@@ -117,7 +118,7 @@ module _ (rs : List Row) (p : Pile) (size : ℕ) where
   module _ (h : refuses (early (depthOf rs) p) ≡ false) (s : Stratum) (e : s ≡ stratumAt rs (p .tip)) where
     by-late : checks ≡ first (late below top p) (when (tooMany (length cut)) 15)
     unfolding checksFrom
-    by-late = first-right _ _ h
+    by-late = ground-grouped (soilAt rs) (depthOf rs) p ∙ first-right _ _ h
 
     module _ (n : ℕ) (l : refuse n ≡ late (s .soil) (s .top) p) where
       late-is : refuse n ≡ late below top p
@@ -134,9 +135,9 @@ module _ (rs : List Row) (p : Pile) (size : ℕ) where
         pub no-place : (r : Refusal) → r ≡ refuse 15 → placeLimit < c .used → Decides r
         no-place r j o = decides r _ (j ∙ sym (when-true 15 _ (shaft-many cut c q o))) (ap refuses j) (λ x. last)
 
-        pub done : c .used ≤ placeLimit → (t : TipRead) (r line : ℕ) (a : Answer) (bytes : List ℕ) → t ≡ tipRead (tipOf p) (s .soil .index) → r ≡ pascals t → line ≡ c .total / 2000000
+        pub done : c .used ≤ placeLimit → (t : TipRead) (r line : ℕ) (a : Answer) (bytes : List ℕ) → t ≡ tipRead (tipOf p) (s .soil .index) → r ≡ pascals t → line ≡ c .sum / 2000000
             → a ≡ numbers (s .soil) p r line → bytes ≡ tableBytes size (heldOf cut) → Right rs p size a (c .used) bytes
-        unfolding answerOf answer answerFrom slicesOfRows slices slicesFrom resistance
+        unfolding answerOf answer heldSlicesOf heldSlices resistance
         done o t r line a bytes read j k f b =
             let few = shaft-few cut c q o in
             let none : refuses checks ≡ false = ap refuses (last ∙ when-false 15 _ (few .0)) in
@@ -145,6 +146,6 @@ module _ (rs : List Row) (p : Pile) (size : ℕ) where
 
 -- of the bytes of a log and a pile record
 pub fresh : (log pile : List ℕ) (p : Pile) (size : ℕ) (a : Answer) {used : ℕ} {bytes : List ℕ} → p ≡ pileOf pile → Right (rowsOf log) p size a used bytes
-    → ((a ≡ freshAnswer log pile) × (used ≡ length (slicesOfRows (rowsOf log) (pileOf pile)))) × (bytes ≡ tableBytes size (slicesOfRows (rowsOf log) (pileOf pile)))
+    → ((a ≡ freshAnswer log pile) × (used ≡ length (heldSlicesOf (rowsOf log) (pileOf pile)))) × (bytes ≡ tableBytes size (heldSlicesOf (rowsOf log) (pileOf pile)))
 unfolding freshAnswer
 fresh log pile p size a e w = rw e at w

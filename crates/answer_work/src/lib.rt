@@ -17,10 +17,11 @@ ghost use lib.ListN.{length, replicate};
 ghost use Rattle.rules.specs.Base as base;
 ghost use Rattle.rules.specs.Limits.{rowLimit, tableSize};
 ghost use Rattle.rules.specs.Packed.{rowsOf, pileOf, tableBytes};
-ghost use Rattle.rules.specs.Checks.{depthOf, Passed};
-ghost use Rattle.rules.specs.Answers.{early};
+ghost use Rattle.rules.specs.Ground.{depthOf};
+ghost use Rattle.rules.specs.Checks.{Passed};
+ghost use Rattle.rules.specs.Calculation.{answerOf, heldSlicesOf, freshAnswer};
+ghost use Rattle.rules.proofs.Groups.{early};
 ghost use Rattle.rules.specs.Answers as answers;
-ghost use Rattle.rules.specs.Calculation.{answerOf, slicesOfRows, freshAnswer};
 use rules::Answer;
 use rules::PLACE_LIMIT;
 use rules::Pile;
@@ -48,8 +49,8 @@ fn no_work(table: &mut [u8], refusal: Refusal) -> Worked
 // A pile that passes checks 5 to 8.
 fn work_pile(log: &[u8], pile: Pile, table: &mut [u8]) -> Worked
     requires { ⌜ Passed (now log) × (base.refuses (early (depthOf (rowsOf (now log))) pile) ≡ false) × (tableSize rowLimit ≤ length (now table)) ⌝ }
-    ensures { λ r. ⌜ (r .answer ≡ answerOf (rowsOf (now (log .entry))) pile) × (r .used ≡ length (slicesOfRows (rowsOf (now (log .entry))) pile)) ⌝ }
-    ensures { λ _. ⌜ now (table .exit) ≡ tableBytes (length (now (table .entry))) (slicesOfRows (rowsOf (now (log .entry))) pile) ⌝ }
+    ensures { λ r. ⌜ (r .answer ≡ answerOf (rowsOf (now (log .entry))) pile) × (r .used ≡ length (heldSlicesOf (rowsOf (now (log .entry))) pile)) ⌝ }
+    ensures { λ _. ⌜ now (table .exit) ≡ tableBytes (length (now (table .entry))) (heldSlicesOf (rowsOf (now (log .entry))) pile) ⌝ }
 {
     let tip = pile.tip as u64;
     let stratum = ground_strata::stratum_at(log, tip);
@@ -64,7 +65,7 @@ fn work_pile(log: &[u8], pile: Pile, table: &mut [u8]) -> Worked
     if PLACE_LIMIT < used {
         return no_work(table, refuse(15));
     }
-    let answer = five_numbers(soil, pile, pascals(read), line_of(cut.total));
+    let answer = five_numbers(soil, pile, pascals(read), line_of(cut.sum));
     Worked {
         answer: answer,
         used: used,
@@ -74,8 +75,8 @@ fn work_pile(log: &[u8], pile: Pile, table: &mut [u8]) -> Worked
 // The answer and the table of a log past its checks, whose rows are this deep, and a pile record; the table has places for every form.
 pub fn work_out(log: &[u8], depth: u64, pile: &[u8], table: &mut [u8]) -> Worked
     requires { ⌜ Passed (now log) × (depth ≡ depthOf (rowsOf (now log))) × (tableSize rowLimit ≤ length (now table)) ⌝ }
-    ensures { λ r. ⌜ (r .answer ≡ freshAnswer (now (log .entry)) (now (pile .entry))) × (r .used ≡ length (slicesOfRows (rowsOf (now (log .entry))) (pileOf (now (pile .entry))))) ⌝ }
-    ensures { λ _. ⌜ now (table .exit) ≡ tableBytes (length (now (table .entry))) (slicesOfRows (rowsOf (now (log .entry))) (pileOf (now (pile .entry)))) ⌝ }
+    ensures { λ r. ⌜ (r .answer ≡ freshAnswer (now (log .entry)) (now (pile .entry))) × (r .used ≡ length (heldSlicesOf (rowsOf (now (log .entry))) (pileOf (now (pile .entry))))) ⌝ }
+    ensures { λ _. ⌜ now (table .exit) ≡ tableBytes (length (now (table .entry))) (heldSlicesOf (rowsOf (now (log .entry))) (pileOf (now (pile .entry)))) ⌝ }
 {
     let p = take_pile(pile);
     let own = pile_refusal(p);

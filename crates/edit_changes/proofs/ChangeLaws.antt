@@ -8,13 +8,15 @@ use lib.ListN.{length}
 use lib.Seq.{take-all}
 use Rattle.rules.specs.declared.Row.{Row}
 use Rattle.rules.specs.Base.{refuses}
+use Rattle.rules.specs.Widths.{Bytes}
 use Rattle.rules.specs.Records.{rowSize}
-use Rattle.rules.specs.Limits.{limitOf, depthLimit}
+use Rattle.rules.specs.Limits.{limitOf, thicknessLimit}
 use Rattle.rules.specs.Packed.{countOf, rowAt, rowsOf, rowBytes, logFor}
+use Rattle.rules.specs.Edits.{asked, grows, gone, rowNamed, part, editedRows, editedLog}
 use Rattle.rules.specs.Checks.{Passed}
-use Rattle.rules.specs.Edits.{asked, grows, gone, rowNamed, part, changeChecks, editedRows, editedLog}
+use Rattle.rules.proofs.Groups.{changeChecks}
 use Rattle.rules.proofs.FormLaws.{limit-most}
-use Rattle.rules.proofs.PlacesLaws.{Bytes, row-back}
+use Rattle.rules.proofs.PlacesLaws.{row-back}
 use Rattle.rules.proofs.RangeLaws.{Fit, fit-thickness}
 use Rattle.rules.proofs.PassedLaws.{Known, known, whole}
 use Rattle.rules.proofs.EditLaws.{Lands, lands, Free, free, Standing, replaces, inserts, removes, splits, standing, room}
@@ -66,7 +68,7 @@ module _ (kind k x : ℕ) (row l : List ℕ) (past : Passed l × (refuses (chang
       go (splits e _ _ _ _) = e
 
   pub place-two : kind ≡ 4
-      → ((1 ≤ k) × (k ≤ countOf l) × (1 + (countOf l + 1) * rowSize ≤ length l)) × ((countOf l < 255) × (x < rowNamed (rowsOf l) k .thickness) × (x ≤ depthLimit))
+      → ((1 ≤ k) × (k ≤ countOf l) × (1 + (countOf l + 1) * rowSize ≤ length l)) × ((countOf l < 255) × (x < rowNamed (rowsOf l) k .thickness) × (x ≤ thicknessLimit))
   place-two e =
       let r : Row = rowNamed (rowsOf l) k in
       let g : Fit (part x r ∷ part (r .thickness - x) r ∷ []) = rw e at (ready .fit) in

@@ -7,10 +7,11 @@ ghost use Prim.Native.Nat.{_+_, _*_, _-_, _≤_, _<_};
 ghost use lib.ListN.{length};
 ghost use Rattle.rules.specs.Base.{refuses};
 ghost use Rattle.rules.specs.Records.{rowSize};
-ghost use Rattle.rules.specs.Limits.{depthLimit};
+ghost use Rattle.rules.specs.Limits.{thicknessLimit};
 ghost use Rattle.rules.specs.Packed.{countOf, rowsOf};
+ghost use Rattle.rules.specs.Edits.{asked, brings, rowNamed, editedLog};
 ghost use Rattle.rules.specs.Checks.{Passed};
-ghost use Rattle.rules.specs.Edits.{asked, brings, rowNamed, changeChecks, editedLog};
+ghost use Rattle.rules.proofs.Groups.{changeChecks};
 ghost use Rattle.rules.specs.Edits as rule;
 ghost use Rattle.edit_changes.specs.Split.{splitLog};
 
@@ -39,7 +40,7 @@ fn part(thickness: u16, r: Row) -> Row
 
 fn split(log: &mut [u8], k: u32, x: u32)
     requires { ⌜ (1 ≤ k) × (k ≤ countOf (now log)) × (1 + (countOf (now log) + 1) * rowSize ≤ length (now log)) ⌝ }
-    requires { ⌜ (countOf (now log) < 255) × (x < rowNamed (rowsOf (now log)) k .thickness) × (x ≤ depthLimit) ⌝ }
+    requires { ⌜ (countOf (now log) < 255) × (x < rowNamed (rowsOf (now log)) k .thickness) × (x ≤ thicknessLimit) ⌝ }
     ensures { λ _. ⌜ now (log .exit) ≡ splitLog k x (now (log .entry)) ⌝ }
 {
     let row = edit_naming::named_row(log, k);

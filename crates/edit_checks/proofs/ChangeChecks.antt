@@ -13,11 +13,13 @@ use Rattle.rules.specs.declared.Row.{Row}
 use Rattle.rules.specs.Base.{refuse, refuses, nothing, when, first}
 use Rattle.rules.specs.Limits.{limitOf, depthLimit}
 use Rattle.rules.specs.Packed.{noRow, rowAt, rowsOf}
-use Rattle.rules.specs.Checks.{depthOf}
-use Rattle.rules.specs.Edits.{asked, rowNamed, part, full, stands, newRowCheck, changeChecks, editedRows}
+use Rattle.rules.specs.Ground.{depthOf}
+use Rattle.rules.specs.Edits.{asked, rowNamed, part, stands, editedRows}
+use Rattle.rules.specs.Checks.{full, newRowCheck}
+use Rattle.rules.proofs.Groups.{changeChecks}
 use Rattle.rules.proofs.SpliceLaws.{depth-parts, splice-depth}
 use Rattle.rules.proofs.EditLaws.{Standing, replaces, inserts, removes, splits}
-use Rattle.record_logs.specs.declared.Checked.{Checked}
+use Rattle.record_log_checks.specs.declared.Checked.{Checked}
 use Rattle.edit_checks.specs.Checked.{goes, comes, changeChecked}
 
 -- what row k takes of the depth

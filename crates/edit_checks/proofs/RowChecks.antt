@@ -11,15 +11,14 @@ use Rattle.rules.specs.declared.Row.{Row}
 use Rattle.rules.specs.Base.{both, neg, nothing}
 use Rattle.rules.specs.Records.{rowSize}
 use Rattle.rules.specs.Packed.{rowAt}
-use Rattle.rules.specs.Checks.{wrongField}
-use Rattle.rules.specs.Calculation.{lengthsWrong}
-use Rattle.rules.specs.Edits.{Edit, asked, brings, rowNamed, newRowCheck, editLengths}
+use Rattle.rules.specs.Edits.{Edit, asked, brings, rowNamed}
+use Rattle.rules.specs.Checks.{wrongField, lengthsWrong, newRowCheck, editLengthsWrong}
 use Rattle.rules.proofs.RefusalLaws.{either-right, right-long}
 use Rattle.edit_checks.specs.Checked.{goes}
 
 -- check 1 comes to the row that is brought, and leaves its length known
 pub row-long : (kind : ℕ) (log pile table row : List ℕ) → lengthsWrong log pile table ≡ false → brings kind ≡ true
-    → not (eqb (length row) rowSize) ≡ editLengths (asked kind 0 0 row) log pile table
+    → not (eqb (length row) rowSize) ≡ editLengthsWrong (asked kind 0 0 row) log pile table
 row-long kind log pile table row a e = rw (a, e) (turned (eqb (length row) rowSize))
   where
     turned : (t : Bool) → not t ≡ neg t
@@ -30,7 +29,7 @@ not-both : (a b : Bool) → both a b ≡ false → a ≡ true → b ≡ false
 not-both true b h e = h
 not-both false b h e = absurd (true≢false (sym e))
 
-pub brought : (e : Edit) (log pile table : List ℕ) → editLengths e log pile table ≡ false → brings (e .kind) ≡ true → length (e .row) ≡ rowSize
+pub brought : (e : Edit) (log pile table : List ℕ) → editLengthsWrong e log pile table ≡ false → brings (e .kind) ≡ true → length (e .row) ≡ rowSize
 brought e log pile table h b = right-long rowSize (e .row) (not-both (brings (e .kind)) _ (either-right (lengthsWrong log pile table) _ h) b)
 
 -- check 3 of it

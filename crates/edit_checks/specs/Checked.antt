@@ -5,10 +5,12 @@ use lib.Dec.{eqb}
 use Rattle.rules.specs.declared.Row.{Row}
 use Rattle.rules.specs.Base.{pick, either}
 use Rattle.rules.specs.Packed.{rowAt, rowsOf}
-use Rattle.rules.specs.Checks.{depthOf}
-use Rattle.rules.specs.Edits.{Edit, brings, rowNamed, editedRows, changeChecks, editChecks}
-use Rattle.record_logs.specs.declared.Checked.{Checked}
-use Rattle.record_logs.specs.Checks.{checkedBy}
+use Rattle.rules.specs.Ground.{depthOf}
+use Rattle.rules.specs.Edits.{Edit, brings, rowNamed, editedRows}
+use Rattle.rules.specs.Checks.{editChecks}
+use Rattle.rules.proofs.Groups.{changeChecks}
+use Rattle.record_log_checks.specs.declared.Checked.{Checked}
+use Rattle.record_log_checks.specs.Checks.{checkedBy}
 
 -- the thickness that goes: replace and remove take row k out, and a split leaves as much as it takes
 abbrev pub goes : ℕ → ℕ → List Row → ℕ

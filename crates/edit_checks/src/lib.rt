@@ -2,7 +2,7 @@
 use base_replies::refuse;
 use edit_naming::brings;
 use edit_naming::named_row;
-use record_logs::Checked;
+use record_log_checks::Checked;
 use record_rows::read_row;
 use rules::DEPTH_LIMIT;
 use rules::ROW_SIZE;
@@ -14,9 +14,10 @@ ghost use lib.ListN.{length};
 ghost use Rattle.rules.specs.Base as base;
 ghost use Rattle.rules.specs.Records.{rowSize};
 ghost use Rattle.rules.specs.Packed.{countOf, rowsOf};
-ghost use Rattle.rules.specs.Checks.{depthOf, Passed};
-ghost use Rattle.rules.specs.Edits as rule;
+ghost use Rattle.rules.specs.Ground.{depthOf};
 ghost use Rattle.rules.specs.Edits.{asked};
+ghost use Rattle.rules.specs.Checks.{Passed};
+ghost use Rattle.rules.specs.Checks as checks;
 ghost use Rattle.edit_checks.specs.Checked.{goes, comes, changeChecked, editChecked};
 
 fn refused(n: u32) -> Checked
@@ -31,7 +32,7 @@ fn refused(n: u32) -> Checked
 
 // Check 1, of every piece that the edit's kind uses.
 fn lengths_wrong(log: &[u8], pile: &[u8], table: &[u8], kind: u32, row: &[u8]) -> bool
-    ensures { λ r. ⌜ r ≡ rule.editLengths (asked kind 0 0 (now (row .entry))) (now (log .entry)) (now (pile .entry)) (now (table .entry)) ⌝ }
+    ensures { λ r. ⌜ r ≡ checks.editLengthsWrong (asked kind 0 0 (now (row .entry))) (now (log .entry)) (now (pile .entry)) (now (table .entry)) ⌝ }
 {
     if record_lengths::lengths_wrong(log, pile, table) {
         return true;
@@ -44,7 +45,7 @@ fn lengths_wrong(log: &[u8], pile: &[u8], table: &[u8], kind: u32, row: &[u8]) -
 
 // Check 3 of the row that replace and insert bring.
 fn new_row_refusal(kind: u32, k: u32, row: &[u8]) -> Refusal
-    ensures { λ r. ⌜ r ≡ rule.newRowCheck (asked kind k 0 (now (row .entry))) ⌝ }
+    ensures { λ r. ⌜ r ≡ checks.newRowCheck (asked kind k 0 (now (row .entry))) ⌝ }
 {
     if !brings(kind) {
         return refuse(0);
@@ -91,10 +92,12 @@ fn check_change(log: &[u8], depth: u64, kind: u32, k: u32, x: u32, row: &[u8]) -
     requires { ⌜ Passed (now log) × (depth ≡ depthOf (rowsOf (now log))) ⌝ }
     ensures { λ r. ⌜ r ≡ changeChecked (asked kind k x (now (row .entry))) (now (log .entry)) ⌝ }
 {
-    if !edit_naming::stands(log, kind, k, x) {
+    let fails = !edit_naming::stands(log, kind, k, x);
+    let full = edit_naming::full(log, kind);
+    if fails {
         return refused(13);
     }
-    if edit_naming::full(log, kind) {
+    if full {
         return refused(14);
     }
     let new = new_row_refusal(kind, k, row);
@@ -130,7 +133,7 @@ pub fn check_edit(
     if lengths_wrong(log, pile, table, kind, row) {
         return refused(1);
     }
-    let lent = record_logs::check_content(log);
+    let lent = record_log_checks::check_content(log);
     let refusal = lent.refusal;
     if 0 < refusal.number {
         return lent;

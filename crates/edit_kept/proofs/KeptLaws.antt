@@ -11,7 +11,7 @@ use lib.Dec.{eqb}
 use borrow.Author.Tests.{eq-eqb, ne-eqb}
 use Rattle.rules.specs.Base.{pick, both}
 use Rattle.rules.specs.Records.{sliceSize}
-use Rattle.rules.specs.Edits.{sameBytes, kept}
+use Rattle.rules.specs.EditReplies.{sameBytes, kept}
 
 -- what is left of slice k of both tables, from its byte j on, is the same
 abbrev pub restSame : List ℕ → List ℕ → ℕ → ℕ → Bool

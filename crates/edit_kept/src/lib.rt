@@ -7,7 +7,7 @@ ghost use Prim.Native.Nat.{_*_, _≤_};
 ghost use lib.ListN.{length};
 ghost use Rattle.rules.specs.Records.{sliceSize};
 ghost use Rattle.rules.specs.Limits.{rowLimit, tableSize};
-ghost use Rattle.rules.specs.Edits.{kept};
+ghost use Rattle.rules.specs.EditReplies.{kept};
 
 // The lent table's bytes.
 pub fn table_copy(table: &[u8]) -> [u8; TABLE_SIZE]

@@ -11,7 +11,8 @@ use Rattle.rules.specs.declared.Row.{Row}
 use Rattle.rules.specs.Records.{rowSize}
 use Rattle.rules.specs.Limits.{forms, logSize, formBy, limitOf}
 use Rattle.rules.specs.Packed.{countOf, noRow, rowAt, rowsFrom, rowsOf}
-use Rattle.rules.specs.Edits.{asked, grows, names, rowNamed, stands, full}
+use Rattle.rules.specs.Edits.{asked, grows, names, rowNamed, stands}
+use Rattle.rules.specs.Checks.{full}
 use Rattle.rules.proofs.RefusalLaws.{within-low, within-high}
 use Rattle.rules.proofs.PassedLaws.{count-length}
 

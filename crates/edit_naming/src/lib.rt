@@ -11,6 +11,7 @@ ghost use Rattle.rules.specs.Records.{rowSize};
 ghost use Rattle.rules.specs.Limits.{limitOf};
 ghost use Rattle.rules.specs.Packed.{countOf, rowsOf};
 ghost use Rattle.rules.specs.Edits as rule;
+ghost use Rattle.rules.specs.Checks as checks;
 
 // Whether k is one of 1 to n.
 fn one_of(n: u32, k: u32) -> bool
@@ -95,7 +96,7 @@ fn grows(kind: u32) -> bool
 // Check 14.
 pub fn full(log: &[u8], kind: u32) -> bool
     requires { ⌜ 1 ≤ length (now log) ⌝ }
-    ensures { λ r. ⌜ r ≡ rule.full kind (limitOf (now (log .entry))) (length (rowsOf (now (log .entry)))) ⌝ }
+    ensures { λ r. ⌜ r ≡ checks.full kind (limitOf (now (log .entry))) (length (rowsOf (now (log .entry)))) ⌝ }
 {
     if !grows(kind) {
         return false;

@@ -11,15 +11,18 @@ use Rattle.rules.specs.Base.{refuses, when, first}
 use Rattle.rules.specs.Records.{rowSize}
 use Rattle.rules.specs.Limits.{rowLimit, placeLimit, limitOf, tableSize}
 use Rattle.rules.specs.Packed.{rowsOf, pileOf, tableBytes}
-use Rattle.rules.specs.Checks.{formless, depthOf, contentChecks, logChecks, Passed}
+use Rattle.rules.specs.Ground.{depthOf}
+use Rattle.rules.specs.Edits.{Edit, brings, editedLog}
+use Rattle.rules.specs.Checks.{formless, Passed, editLengthsWrong, editChecks, Accepted}
 use Rattle.rules.specs.Answers.{refused}
-use Rattle.rules.specs.Calculation.{slicesOfRows, freshAnswer, freshTable}
-use Rattle.rules.specs.Edits.{Edit, brings, changeChecks, editedLog, editLengths, editChecks, editAnswer, editReply, editLog, editTable, usedSlices, kept, withKept}
+use Rattle.rules.specs.Calculation.{heldSlicesOf, freshAnswer, freshTable}
+use Rattle.rules.specs.EditReplies.{editAnswer, editReply, editLog, editTable, usedSlices, kept, withKept}
+use Rattle.rules.proofs.Groups.{contentChecks, changeChecks, edit-grouped, log-grouped}
 use Rattle.rules.proofs.RefusalLaws.{first-off, first-none, when-off, when-false, either-left}
 use Rattle.rules.proofs.FormLaws.{one-form}
 use Rattle.rules.proofs.PassedLaws.{known}
 use Rattle.rules.proofs.EditLaws.{Left, left, free}
-use Rattle.record_logs.specs.declared.Checked.{Checked}
+use Rattle.record_log_checks.specs.declared.Checked.{Checked}
 use Rattle.answer_work.proofs.SliceLaws.{few-slices}
 use Rattle.edit_checks.specs.Checked.{editChecked}
 use Rattle.answer_calculation.proofs.CheckedLaws.{Long, long}
@@ -31,7 +34,7 @@ pub said : (e : Edit) (log pile table : List ℕ) (r : Checked) → r ≡ editCh
 unfolding editChecked
 said e log pile table r h = ap (λ (x : Checked). x .refusal) h
 
-pub nothing-said : (e : Edit) (log pile table : List ℕ) (r : Checked) → r ≡ editChecked e log pile table → r .refusal .number ≤ 0 → refuses (editChecks e log pile table) ≡ false
+pub nothing-said : (e : Edit) (log pile table : List ℕ) (r : Checked) → r ≡ editChecked e log pile table → r .refusal .number ≤ 0 → Accepted e log pile table
 nothing-said e log pile table r h n = ap refuses (sym (said e log pile table r h)) ∙ le-ltb 0 (r .refusal .number) n
 
 -- "A refused edit .. changes no buffer."
@@ -43,21 +46,20 @@ refused-edit e log pile table w a h n f =
     (f ∙ ap refused h ∙ rw r, (rw r, rw r))
 
 -- an accepted edit: what was lent, and the log that it leaves
-pub record Accepted (e : Edit) (l p t : List ℕ) : Type 0 where
+pub record Allowed (e : Edit) (l p t : List ℕ) : Type 0 where
   pub lent : Long l p t
   pub row : brings (e .kind) ≡ true → length (e .row) ≡ rowSize
   pub passed : Passed l
   pub change : refuses (changeChecks e l) ≡ false
   pub left : Left e l
 
-pub accepted : (e : Edit) (log pile table : List ℕ) → refuses (editChecks e log pile table) ≡ false → Accepted e log pile table
-unfolding editChecks logChecks
-accepted e log pile table none =
-    let one = first-off (when (editLengths e log pile table) 1) (first (contentChecks log) (changeChecks e log)) none in
+pub allowed : (e : Edit) (log pile table : List ℕ) → Accepted e log pile table → Allowed e log pile table
+allowed e log pile table none =
+    let one = first-off (when (editLengthsWrong e log pile table) 1) (first (contentChecks log) (changeChecks e log)) (rw (edit-grouped e log pile table) at none) in
     let two = first-off (contentChecks log) (changeChecks e log) (one .1) in
-    let w : editLengths e log pile table ≡ false = when-off 0 (editLengths e log pile table) (one .0) in
+    let w : editLengthsWrong e log pile table ≡ false = when-off 0 (editLengthsWrong e log pile table) (one .0) in
     let g : Long log pile table = long log pile table (either-left _ _ w) in
-    let p : Passed log = first-none (when (formless log) 1) (contentChecks log) (ap refuses (when-false 1 (formless log) (g .formed))) (two .0) in
+    let p : Passed log = rw (log-grouped log) (first-none (when (formless log) 1) (contentChecks log) (ap refuses (when-false 1 (formless log) (g .formed))) (two .0)) in
     record {
       lent = g;
       row = brought e log pile table w;
@@ -67,16 +69,16 @@ accepted e log pile table none =
     }
 
 -- the log after the change, its depth, and what is worked out of it
-module _ (e : Edit) (log pile table : List ℕ) (none : refuses (editChecks e log pile table) ≡ false) (s : List ℕ) (f : s ≡ editedLog e log) where
+module _ (e : Edit) (log pile table : List ℕ) (none : Accepted e log pile table) (s : List ℕ) (f : s ≡ editedLog e log) where
   pub now-passed : Passed s
-  now-passed = rw f (accepted e log pile table none .left .passed)
+  now-passed = rw f (allowed e log pile table none .left .passed)
 
   pub now-deep : (r : Checked) → r ≡ editChecked e log pile table → r .depth ≡ depthOf (rowsOf s)
   unfolding editChecked
-  now-deep r h = ap (λ (x : Checked). x .depth) h ∙ rw (none, f, accepted e log pile table none .left .rows)
+  now-deep r h = ap (λ (x : Checked). x .depth) h ∙ rw (none, f, allowed e log pile table none .left .rows)
 
   pub now-long : length table ≡ tableSize (limitOf s)
-  now-long = let a = accepted e log pile table none in rw (f, a .left .limit) (a .lent .size)
+  now-long = let a = allowed e log pile table none in rw (f, a .left .limit) (a .lent .size)
 
   pub accepted-edit : (a : Answer) (new : List ℕ) → a ≡ editAnswer s pile table → new ≡ freshTable s pile
       → (a ≡ editReply e log pile table) × ((s ≡ editLog e log pile table) × (new ≡ editTable e log pile table))
@@ -85,7 +87,7 @@ module _ (e : Edit) (log pile table : List ℕ) (none : refuses (editChecks e lo
 
 -- the answer of the log as it now stands, with kept, and its table
 pub held : (log pile table : List ℕ) (a : Answer) (n m : ℕ) (new old : List ℕ) → length table ≡ tableSize (limitOf log) → a ≡ freshAnswer log pile → n ≡ usedSlices log pile
-    → new ≡ tableBytes (length table) (slicesOfRows (rowsOf log) (pileOf pile)) → old ≡ table → m ≡ kept n new old → (withKept m a ≡ editAnswer log pile table) × (new ≡ freshTable log pile)
+    → new ≡ tableBytes (length table) (heldSlicesOf (rowsOf log) (pileOf pile)) → old ≡ table → m ≡ kept n new old → (withKept m a ≡ editAnswer log pile table) × (new ≡ freshTable log pile)
 unfolding editAnswer freshTable
 held log pile table a n m new old l p q t u h = (rw (h, p, q, t, u, l), rw (t, l))
 

@@ -4,9 +4,11 @@ ghost use mathlib.Core.Path.{_≡_};
 ghost use lib.ListN.{length};
 ghost use Rattle.rules.specs.Limits.{limitOf, tableSize};
 ghost use Rattle.rules.specs.Packed.{rowsOf};
-ghost use Rattle.rules.specs.Checks.{depthOf, Passed};
+ghost use Rattle.rules.specs.Ground.{depthOf};
+ghost use Rattle.rules.specs.Edits.{asked};
+ghost use Rattle.rules.specs.Checks.{Passed};
 ghost use Rattle.rules.specs.Calculation.{freshTable};
-ghost use Rattle.rules.specs.Edits.{asked, editAnswer, editReply, editLog, editTable};
+ghost use Rattle.rules.specs.EditReplies.{editAnswer, editReply, editLog, editTable};
 
 // The changed log, this deep, is worked out into the table. The table is written in place, so kept is counted against a copy of it.
 fn hold(log: &[u8], depth: u64, pile: &[u8], table: &mut [u8]) -> Answer

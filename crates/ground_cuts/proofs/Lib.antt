@@ -1,2 +1,3 @@
--- Laws of one slice.
+-- Laws of one slice, and that every slice fits its bits.
 pub mod SliceLaws
+pub mod FitLaws

@@ -6,7 +6,7 @@ use Rattle.rules.specs.declared.Pile.{Pile}
 use Rattle.rules.specs.declared.Slice.{Slice}
 use Rattle.rules.specs.Widths.{Fits}
 use Rattle.rules.specs.Records.{sliceWidths, sliceFields}
-use Rattle.rules.specs.Limits.{sliceLimit}
+use Rattle.rules.specs.Limits.{sliceThickness}
 use Rattle.rules.specs.Bounds.{weightBound}
 use Rattle.rules.specs.Pieces.{piece}
 use Rattle.rules.specs.Numbers.{sliceOf}
@@ -14,7 +14,7 @@ use Rattle.ground_cuts.specs.declared.Cut.{Cut}
 
 -- how thick the slice is that begins at depth at, in a stratum down to bottom
 abbrev pub thickHere : Pile → ℕ → ℕ → ℕ
-thickHere p at bottom = min (min sliceLimit (p .tip - at)) (bottom - at)
+thickHere p at bottom = min (min sliceThickness (p .tip - at)) (bottom - at)
 
 -- the slice itself, in soil s
 abbrev pub sliceHere : Pile → Soil → ℕ → ℕ → Slice

@@ -10,9 +10,9 @@ ghost use Rattle.norm_friction_table.specs.Printed.{Lent};
 ghost use Rattle.record_slice_table.specs.Table.{putAt};
 ghost use Rattle.ground_cuts.specs.Cuts.{sliceHere, weightOf, Read, Done};
 use rules::Pile;
-use rules::SLICE_LIMIT;
 use rules::Slice;
 use rules::Soil;
+use rules::THICKEST_SLICE;
 
 // How thick a slice is, and friction × thickness × factor.
 pub struct Cut {
@@ -33,7 +33,7 @@ fn next_slice(
     ensures { λ r. ⌜ Read (sliceHere pile soil at bottom) r ⌝ }
 {
     let tip = pile.tip as u64;
-    let thickness = smaller(smaller(SLICE_LIMIT, tip - at), bottom - at);
+    let thickness = smaller(smaller(THICKEST_SLICE, tip - at), bottom - at);
     // Friction is read at the mid-depth, in half millimetres.
     let friction = norm_friction::friction(kpa, metres, soil, at + at + thickness);
     let factor = norm_factors::factor(pile.method, soil.kind);

@@ -15,12 +15,12 @@ use Rattle.rules.specs.Bounds.{weightBound}
 use Rattle.rules.specs.Packed.{rowsOf, tableBytes}
 use Rattle.rules.specs.Ground.{soilAt}
 use Rattle.rules.specs.Pieces.{piecesFrom, pieces}
-use Rattle.rules.specs.Numbers.{slicesOf, total}
+use Rattle.rules.specs.Numbers.{sliceEach, frictionSum}
 use Rattle.rules.proofs.PassedLaws.{known}
 use Rattle.rules.proofs.RowLaws.{next}
 use Rattle.ground_cuts.specs.declared.Cut.{Cut}
 use Rattle.ground_cuts.specs.Cuts.{thickHere, sliceHere, Done}
-use Rattle.ground_cuts.proofs.SliceLaws.{total-more}
+use Rattle.ground_cuts.proofs.SliceLaws.{sum-more}
 use Rattle.record_slice_table.specs.Table.{putAt}
 use Rattle.record_slice_table.proofs.TableLaws.{Filled, filled-none, filled-long, filled-more}
 use Rattle.ground_shaft.specs.Shafts.{Ready, cutOf, heldOf, noShaft, shaftOf}
@@ -28,21 +28,21 @@ use Rattle.ground_shaft.proofs.StratumLaws.{Whole}
 
 -- the slices of the shaft from depth at down
 abbrev leftOf : List Row → Pile → ℕ → List Slice
-leftOf rs p at = slicesOf p (piecesFrom (soilAt rs) at (p .tip - at))
+leftOf rs p at = sliceEach p (piecesFrom (soilAt rs) at (p .tip - at))
 
 -- the shaft is cut down to depth at, into the slices `cut`
 pub record Doing (rs : List Row) (p : Pile) (size used at : ℕ) (bytes : List ℕ) (sum : ℕ) : Type 0 where
   pub cut : List Slice
   pub rest : cutOf rs p ≡ cut ++ leftOf rs p at
   pub table : Filled size cut bytes used
-  pub sums : sum ≡ total cut
+  pub sums : sum ≡ frictionSum cut
   pub small : sum ≤ weightBound * (at - p .head)
   pub low : p .head ≤ at
   pub high : at ≤ p .tip
   pub few : used ≤ placeLimit
 
 pub doing-none : (rs : List Row) (p : Pile) (size : ℕ) (bytes : List ℕ) → p .head < p .tip → bytes ≡ replicate size 0 → Doing rs p size 0 (p .head) bytes 0
-unfolding pieces total
+unfolding pieces frictionSum
 doing-none rs p size bytes h e =
     record { cut = []; rest = refl; table = rw e (filled-none size); sums = refl; small = omega arith; low = omega arith; high = omega arith; few = omega arith }
 
@@ -60,18 +60,18 @@ module _ {log : List ℕ} {p : Pile} {size : ℕ} (a : Ready log p size) {used a
 
     -- it is the next of the millimetre definition
     next-is : leftOf rs p at ≡ here ∷ leftOf rs p (at + thickHere p at bottom)
-    unfolding slicesOf
+    unfolding sliceEach
     next-is =
         let t : ℕ = thickHere p at bottom in
         let j : p .tip - at - t ≡ p .tip - (at + t) = omega arith in
-        ap (slicesOf p) (rw (w .far, w .soil, j) at (next rs at (p .tip - at) (known log (a .passed) .full) (omega arith) (omega (arith, a .deep))))
+        ap (sliceEach p) (rw (w .far, w .soil, j) at (next rs at (p .tip - at) (known log (a .passed) .full) (omega arith) (omega (arith, a .deep))))
 
     pub doing-more : (e : List ℕ) (r : Cut) → used < placeLimit → e ≡ putAt bytes used here → Done p s at bottom r → Doing rs p size (used + 1) (at + r .thickness) e (sum + r .weight)
     doing-more e r f q y = record {
       cut = g .cut ++ (here ∷ []);
       rest = rw (y .thick, append-assoc) (g .rest ∙ ap (λ (x : List Slice). g .cut ++ x) next-is);
       table = filled-more size (g .cut) bytes e used here (omega (arith, a .room)) q (g .table);
-      sums = omega (arith, g .sums, y .weight, total-more (g .cut) here);
+      sums = omega (arith, g .sums, y .weight, sum-more (g .cut) here);
       small = omega (arith, g .small, g .low, y .small);
       low = omega (arith, g .low);
       high = omega (arith, y .thick);
@@ -87,8 +87,8 @@ module _ {log : List ℕ} {p : Pile} {size : ℕ} (a : Ready log p size) {used a
         (rw (lt-ltb placeLimit (length (cutOf rs p)) many), rw e (g .table .1))
 
   -- the shaft is cut down to the tip
-  pub all : p .tip ≤ at → (record { used = used; total = sum } ≡ shaftOf (cutOf rs p)) × (bytes ≡ tableBytes size (heldOf (cutOf rs p)))
-  unfolding shaftOf piecesFrom slicesOf
+  pub all : p .tip ≤ at → (record { used = used; sum = sum } ≡ shaftOf (cutOf rs p)) × (bytes ≡ tableBytes size (heldOf (cutOf rs p)))
+  unfolding shaftOf piecesFrom sliceEach
   all h =
       let z : p .tip - at ≡ 0 = omega arith in
       let e : cutOf rs p ≡ g .cut = rw z at (g .rest) ∙ append-nil (g .cut) in

@@ -12,9 +12,8 @@ use Rattle.rules.specs.declared.Row.{Row}
 use Rattle.rules.specs.declared.Soil.{Soil}
 use Rattle.rules.specs.Base.{either}
 use Rattle.rules.specs.Packed.{countOf, rowsOf}
-use Rattle.rules.specs.Checks.{depthOf}
-use Rattle.rules.specs.Ground.{same, soilOf, soilAt}
-use Rattle.rules.specs.ByRows.{lead, extent}
+use Rattle.rules.specs.Ground.{depthOf, same, soilOf, soilAt}
+use Rattle.rules.proofs.ByRows.{lead, extent}
 use Rattle.rules.proofs.Basics.{split, same-eq}
 use Rattle.rules.proofs.RefusalLaws.{either-left, either-right}
 use Rattle.rules.proofs.RowLaws.{lead-on, lead-off}

@@ -21,7 +21,7 @@ const OVER: usize = PLACE_LIMIT + 1;
 // How many slices a shaft has, and the sum of friction × thickness × factor.
 pub struct Shaft {
     pub used: usize,
-    pub total: u64,
+    pub sum: u64,
 }
 
 // Row i of the n rows of the log, counted from 0; past the last, a row that nobody looks at.
@@ -44,14 +44,14 @@ fn cut_along(
     table: &mut [u8],
 ) -> Shaft
     requires { ⌜ Lent (now kpa) (now metres) × Ready (now log) pile (length (now table)) ⌝ }
-    ensures { λ r. ⌜ (r ≡ shaftOf (cutOf (rowsOf (now (log .entry))) pile)) × (r .total ≤ sumBound) ⌝ }
+    ensures { λ r. ⌜ (r ≡ shaftOf (cutOf (rowsOf (now (log .entry))) pile)) × (r .sum ≤ sumBound) ⌝ }
     ensures { λ _. ⌜ now (table .exit) ≡ tableBytes (length (now (table .entry))) (heldOf (cutOf (rowsOf (now (log .entry))) pile)) ⌝ }
 {
     clear_table(table);
     let n = log[0] as usize;
     let tip = pile.tip as u64;
     let mut used: usize = 0;
-    let mut total: u64 = 0;
+    let mut sum: u64 = 0;
     let mut at = pile.head as u64;
     // The row that comes next is read once, and kept until it joins.
     let mut next: usize = 0;
@@ -69,24 +69,21 @@ fn cut_along(
             }
         }
         if used == PLACE_LIMIT {
-            return Shaft {
-                used: OVER,
-                total: 0,
-            };
+            return Shaft { used: OVER, sum: 0 };
         }
         let cut = cut_slice(kpa, metres, table, used, pile, soil, at, bottom);
-        total += cut.weight;
+        sum += cut.weight;
         used += 1;
         at += cut.thickness;
     }
-    Shaft { used, total }
+    Shaft { used, sum }
 }
 
 // The part of each stratum between head and tip, cut from its top. Where the shaft needs more slices than a table has
 // places, one more than those is replied, and the table holds as many as it can.
 pub fn cut_shaft(log: &[u8], pile: Pile, table: &mut [u8]) -> Shaft
     requires { ⌜ Ready (now log) pile (length (now table)) ⌝ }
-    ensures { λ r. ⌜ (r ≡ shaftOf (cutOf (rowsOf (now (log .entry))) pile)) × (r .total ≤ sumBound) ⌝ }
+    ensures { λ r. ⌜ (r ≡ shaftOf (cutOf (rowsOf (now (log .entry))) pile)) × (r .sum ≤ sumBound) ⌝ }
     ensures { λ _. ⌜ now (table .exit) ≡ tableBytes (length (now (table .entry))) (heldOf (cutOf (rowsOf (now (log .entry))) pile)) ⌝ }
 {
     let kpa = norm_friction_table::rows();

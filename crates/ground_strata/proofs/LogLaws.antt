@@ -9,9 +9,8 @@ use lib.Seq.{take-all}
 use Rattle.rules.specs.declared.Row.{Row}
 use Rattle.rules.specs.Records.{rowSize}
 use Rattle.rules.specs.Packed.{rowAt, rowsFrom, countOf, rowsOf}
-use Rattle.rules.specs.Checks.{depthOf}
-use Rattle.rules.specs.Ground.{soilOf, soilAt}
-use Rattle.rules.specs.ByRows.{lead, extent}
+use Rattle.rules.specs.Ground.{depthOf, soilOf, soilAt}
+use Rattle.rules.proofs.ByRows.{lead, extent}
 use Rattle.rules.proofs.GroundLaws.{soil-here, soil-below}
 use Rattle.rules.proofs.RowLaws.{extent-here, extent-below}
 use Rattle.rules.proofs.PassedLaws.{count-length}

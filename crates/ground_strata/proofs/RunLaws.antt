@@ -8,14 +8,13 @@ use lib.ListN.{take}
 use Rattle.rules.specs.declared.Row.{Row}
 use Rattle.rules.specs.declared.Soil.{Soil}
 use Rattle.rules.specs.Packed.{rowsOf}
-use Rattle.rules.specs.Checks.{depthOf}
-use Rattle.rules.specs.Ground.{same, soilOf, soilAt}
+use Rattle.rules.specs.Ground.{depthOf, same, soilOf, soilAt}
 use Rattle.rules.specs.Pieces.{runTop}
 use Rattle.rules.proofs.Basics.{same-eq}
 use Rattle.rules.proofs.RangeLaws.{Fit, fit-drop, fit-thickness}
 use Rattle.rules.proofs.SeatLaws.{run-on}
-use Rattle.ground_strata.specs.declared.Held.{Held}
-use Rattle.ground_strata.specs.Strata.{Holds, stratumAt}
+use Rattle.ground_strata.specs.declared.RowFound.{RowFound}
+use Rattle.ground_strata.specs.Strata.{RowHolds, stratumAt}
 use Rattle.ground_strata.proofs.LogLaws.{Next, row-soil}
 
 -- the run of soil s, which holds m, goes up to row i at the least, whose top is q
@@ -23,7 +22,7 @@ pub record Risen (rs : List Row) (m i : ℕ) (s : Soil) (q : ℕ) : Type 0 where
   pub top : q ≡ depthOf (take i rs)
   pub run : stratumAt rs m ≡ record { soil = s; top = runTop (soilAt rs) s q }
 
-pub risen-none : (log : List ℕ) (m : ℕ) (h : Held) (r : Row) (s : Soil) → Holds log m h → Next (rowsOf log) (h .row) r → s ≡ soilOf r → Risen (rowsOf log) m (h .row) s (h .top)
+pub risen-none : (log : List ℕ) (m : ℕ) (h : RowFound) (r : Row) (s : Soil) → RowHolds log m h → Next (rowsOf log) (h .row) r → s ≡ soilOf r → Risen (rowsOf log) m (h .row) s (h .top)
 risen-none log m h r s w e f =
     let rs = rowsOf log in
     let own : (k : ℕ) → h .top ≤ k → k ≤ m → soilAt rs k ≡ s = λ k x y. row-soil e k (omega (arith, w .top)) (omega (arith, w .below)) ∙ sym f in

@@ -5,14 +5,13 @@ use Prim.Native.Nat.{ℕ, _+_, _<_, _≤_}
 use lib.ListN.{take}
 use Rattle.rules.specs.declared.Row.{Row}
 use Rattle.rules.specs.Packed.{countOf, rowsOf}
-use Rattle.rules.specs.Checks.{depthOf}
-use Rattle.rules.specs.Ground.{soilAt}
+use Rattle.rules.specs.Ground.{depthOf, soilAt}
 use Rattle.rules.specs.Pieces.{runTop}
-use Rattle.ground_strata.specs.declared.Held.{Held}
+use Rattle.ground_strata.specs.declared.RowFound.{RowFound}
 use Rattle.ground_strata.specs.declared.Stratum.{Stratum}
 
 -- row r of log s holds millimetre m
-pub record Holds (s : List ℕ) (m : ℕ) (r : Held) : Type 0 where
+pub record RowHolds (s : List ℕ) (m : ℕ) (r : RowFound) : Type 0 where
   pub row : r .row < countOf s
   pub top : r .top ≡ depthOf (take (r .row) (rowsOf s))
   pub above : r .top ≤ m

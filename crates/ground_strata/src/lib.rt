@@ -1,9 +1,10 @@
 // The stratum that holds a millimetre, along a log's rows.
 ghost use mathlib.Core.Path.{_≡_};
 ghost use Prim.Native.Nat.{_<_};
-ghost use Rattle.rules.specs.Checks.{depthOf, Passed};
 ghost use Rattle.rules.specs.Packed.{rowsOf};
-ghost use Rattle.ground_strata.specs.Strata.{Holds, stratumAt};
+ghost use Rattle.rules.specs.Ground.{depthOf};
+ghost use Rattle.rules.specs.Checks.{Passed};
+ghost use Rattle.ground_strata.specs.Strata.{RowHolds, stratumAt};
 use ground_soils::same_soil;
 use ground_soils::soil_of;
 use rules::ROW_SIZE;
@@ -16,14 +17,14 @@ pub struct Stratum {
 }
 
 // The row that holds a millimetre, counted from 0, and its top.
-struct Held {
+struct RowFound {
     row: usize,
     top: u64,
 }
 
-fn row_at(log: &[u8], m: u64) -> Held
+fn row_at(log: &[u8], m: u64) -> RowFound
     requires { ⌜ Passed (now log) × (m < depthOf (rowsOf (now log))) ⌝ }
-    ensures { λ r. ⌜ Holds (now (log .entry)) m r ⌝ }
+    ensures { λ r. ⌜ RowHolds (now (log .entry)) m r ⌝ }
 {
     let n = log[0] as usize;
     let mut bottom: u64 = 0;
@@ -33,11 +34,11 @@ fn row_at(log: &[u8], m: u64) -> Held
         let r = record_rows::row_inside(log, 1 + i * ROW_SIZE);
         bottom += r.thickness as u64;
         if m < bottom {
-            return Held { row: i, top: top };
+            return RowFound { row: i, top: top };
         }
         i += 1;
     }
-    Held {
+    RowFound {
         row: i,
         top: bottom,
     }

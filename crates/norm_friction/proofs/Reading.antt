@@ -5,17 +5,17 @@ use Prim.Native.Nat.{ℕ, _+_, _*_, _-_, _≤_}
 use native.Mathlib.Nat.{add-mul, mul-comm, mul-sub, mul-right-comm, eq-of-mul-eq-mul-right}
 use native.Mathlib.Omega.{arith}
 use lib.ListN.{getD}
-use Rattle.rules.specs.Tables.{frictionDepths, frictionRows, frictionCell, frictionWeighed, frictionAt, placeOf}
 use Rattle.rules.specs.Bounds.{frictionBound}
-use Rattle.rules.specs.Numbers.{friction, frictionPlace, right}
-use Rattle.rules.specs.declared.Place.{Place}
+use Rattle.rules.specs.Tables.{frictionDepths, frictionRows, frictionCell, frictionWeighed, frictionAt, spotOf}
+use Rattle.rules.specs.Numbers.{friction, frictionSpot, hundredths}
+use Rattle.rules.specs.declared.Spot.{Spot}
 use Rattle.rules.specs.declared.Soil.{Soil}
 use Rattle.rules.proofs.TableLaws.{friction-whole}
 use Rattle.norm_columns.specs.declared.Column.{Column}
 use Rattle.norm_columns.specs.Across.{Across}
-use Rattle.norm_places.specs.Standing.{InTable}
-use Rattle.norm_places.proofs.Search.{in-table}
-use Rattle.norm_places.proofs.Weights.{weighed-le, weighed-is, shared}
+use Rattle.norm_spots.specs.Standing.{InTable}
+use Rattle.norm_spots.proofs.Search.{in-table}
+use Rattle.norm_spots.proofs.Weights.{weighed-le, weighed-is, shared}
 use Rattle.norm_friction.specs.declared.Standing.{Standing}
 use Rattle.norm_friction_table.specs.Printed.{headed}
 use Rattle.norm_friction.specs.Standings.{Stands}
@@ -44,13 +44,13 @@ along-is rows i c e h =
     rw (n, cell-is rows i (c .number) e h, cell-is rows i (c .number + 1) e h)
 
 pub friction-is : (s : Soil) (mid : ℕ) (rows : List (List ℕ)) (st : Standing) (c : Column) (upper lower : ℕ)
-    → rows ≡ headed frictionDepths frictionRows → Stands mid st → Across 7 (right s) c
+    → rows ≡ headed frictionDepths frictionRows → Stands mid st → Across 7 (hundredths s) c
     → upper ≡ along rows (st .row) c → lower ≡ along rows (st .row + 1) c
     → (20000 - st .part) * upper + st .part * lower ≡ friction s mid
-unfolding placeOf
+unfolding spotOf
 friction-is s mid rows st c upper lower r t k e f =
-    let p : Place = frictionPlace s mid in
-    let w : InTable 11 7 p = in-table frictionDepths 2000 11 friction-deepens 7 mid (right s) in
+    let p : Spot = frictionSpot s mid in
+    let w : InTable 11 7 p = in-table frictionDepths 2000 11 friction-deepens 7 mid (hundredths s) in
     let u : upper ≡ (10 - p .across) * frictionCell (p .row) (p .column) + p .across * frictionCell (p .row) (p .column + 1) =
     e ∙ along-is rows (st .row) c r (omega arith) ∙ (rw (t .row, k .across, k .number)) in
     let l : lower ≡ (10 - p .across) * frictionCell (p .row + 1) (p .column) + p .across * frictionCell (p .row + 1) (p .column + 1) =
@@ -63,6 +63,6 @@ friction-is s mid rows st c upper lower r t k e f =
 pub friction-most : (s : Soil) (mid : ℕ) → friction s mid ≤ frictionBound
 unfolding friction frictionAt
 friction-most s mid =
-    let p = frictionPlace s mid in
+    let p = frictionSpot s mid in
     shared (frictionWeighed p) (p .span) 1000 20000
-    (weighed-le frictionCell 11 7 100 p (in-table frictionDepths 2000 11 friction-deepens 7 mid (right s)) cells)
+    (weighed-le frictionCell 11 7 100 p (in-table frictionDepths 2000 11 friction-deepens 7 mid (hundredths s)) cells)

@@ -8,14 +8,14 @@ use native.Mathlib.Numerals.{add-one}
 use native.Mathlib.Omega.{arith}
 use lib.Dec.{leb, leb→le}
 use lib.ListN.{getD, length}
-use Rattle.rules.specs.Tables.{frictionDepths, frictionRows, frictionCell, rowFor, placeOf}
+use Rattle.rules.specs.Tables.{frictionDepths, frictionRows, frictionCell, rowFor, spotOf}
 use Rattle.rules.proofs.Basics.{split}
 use Rattle.rules.proofs.TableLaws.{row-stops, row-goes, row-le}
-use Rattle.norm_places.specs.Standing.{Deepens, Between, InTable}
-use Rattle.norm_places.proofs.Search.{grid, deepens, found, in-table}
+use Rattle.norm_spots.specs.Standing.{Deepens, Between, InTable}
+use Rattle.norm_spots.proofs.Search.{grid, deepens, found, in-table}
 use Rattle.norm_friction.specs.declared.Standing.{Standing}
 use Rattle.norm_friction_table.specs.Printed.{headed, apart, Index, Lent}
-use Rattle.norm_friction.specs.Standings.{placeAt, Stands}
+use Rattle.norm_friction.specs.Standings.{spotAt, Stands}
 
 -- by half millimetres
 pub friction-deepens : Deepens frictionDepths 2000 11
@@ -55,16 +55,16 @@ cell-is rows i j e h = rw (e, row-is frictionDepths frictionRows i (omega arith)
 
 -- the lent arrays read at the whole metre of a depth
 pub record Found (mid depth row above share : ℕ) : Type 0 where
-  pub row-is : row ≡ placeAt mid .row
+  pub row-is : row ≡ spotAt mid .row
   pub last : row ≤ 11
   pub low : above * 2000 ≤ depth
-  pub down : depth - above * 2000 ≡ placeAt mid .down
-  pub even : share * placeAt mid .span ≡ 20000
+  pub down : depth - above * 2000 ≡ spotAt mid .down
+  pub even : share * spotAt mid .span ≡ 20000
 
 pub read : (rs ms : List (List ℕ)) (mid depth row above share : ℕ) → Lent rs ms → depth ≡ max 2000 (min mid 70000)
     → row ≡ getD (getD ms (depth / 2000) []) 0 0 → above ≡ getD (getD rs row []) 0 0 → share ≡ getD (getD ms (depth / 2000) []) 1 0
     → Found mid depth row above share
-unfolding placeOf
+unfolding spotOf
 read rs ms mid depth row above share l e f g h =
     let k : depth / 2000 < 36 = omega arith in
     let r : row ≡ rowFor frictionDepths 2000 11 0 depth = f ∙ l .index .row (depth / 2000) k ∙ sym (by-metre frictionDepths 11 0 depth) in
@@ -86,11 +86,11 @@ part-fits down span share h e =
 
 pub stands : (mid depth above share : ℕ) (r : Standing) → Found mid depth (r .row) above share → r .part ≡ (depth - above * 2000) * share → Stands mid r
 stands mid depth above share r f e =
-    let t : InTable 11 7 (placeAt mid) = in-table frictionDepths 2000 11 friction-deepens 7 mid 0 in
-    let d : r .part ≡ placeAt mid .down * share = e ∙ ap (λ (x : ℕ). x * share) (f .down) in
+    let t : InTable 11 7 (spotAt mid) = in-table frictionDepths 2000 11 friction-deepens 7 mid 0 in
+    let d : r .part ≡ spotAt mid .down * share = e ∙ ap (λ (x : ℕ). x * share) (f .down) in
     record {
       row = f .row-is;
-      part = ap (λ (x : ℕ). x * placeAt mid .span) d ∙ mul-assoc (placeAt mid .down) share (placeAt mid .span) ∙ ap (λ (x : ℕ). placeAt mid .down * x) (f .even);
+      part = ap (λ (x : ℕ). x * spotAt mid .span) d ∙ mul-assoc (spotAt mid .down) share (spotAt mid .span) ∙ ap (λ (x : ℕ). spotAt mid .down * x) (f .even);
       last = f .last;
-      whole = rw d (part-fits (placeAt mid .down) (placeAt mid .span) share (t .weights .down) (f .even));
+      whole = rw d (part-fits (spotAt mid .down) (spotAt mid .span) share (t .weights .down) (f .even));
     }

@@ -11,8 +11,8 @@ ghost use Rattle.norm_friction_table.specs.Printed.{Lent};
 ghost use Rattle.norm_friction.specs.Standings.{Stands};
 
 // Hundredths right of column 0.2.
-fn right(soil: Soil) -> u64
-    ensures { λ r. ⌜ r ≡ numbers.right soil ⌝ }
+fn hundredths(soil: Soil) -> u64
+    ensures { λ r. ⌜ r ≡ numbers.hundredths soil ⌝ }
 {
     let kind = soil.kind;
     match kind {
@@ -70,7 +70,7 @@ pub fn friction(rows: &[[u8; 10]; 13], metres: &[[u8; 2]; 36], soil: Soil, mid: 
     ensures { λ r. ⌜ (r ≡ numbers.friction soil mid) × (r ≤ frictionBound) ⌝ }
 {
     let stands = stand(rows, metres, mid);
-    let column = norm_columns::column_for(right(soil), 7);
+    let column = norm_columns::column_for(hundredths(soil), 7);
     let i = stands.row;
     let part = stands.part;
     let upper = along(&rows[i], column.number, column.across);

@@ -6,16 +6,16 @@ use native.Mathlib.Omega.{arith}
 use Rattle.rules.specs.declared.Cell.{Cell}
 use Rattle.rules.specs.declared.TipRead.{TipRead}
 use Rattle.rules.specs.declared.TipRead.the-variants.{Dashed, Pascals}
-use Rattle.rules.specs.declared.Place.{Place}
+use Rattle.rules.specs.declared.Spot.{Spot}
 use Rattle.rules.specs.Bounds.{cellBound, resistanceBound}
-use Rattle.rules.specs.Tables.{tipDepths, tipCell, kpaOf, dashAt, tipAt, weighed, placeOf}
+use Rattle.rules.specs.Tables.{tipDepths, tipCell, kpaOf, dashAt, tipAt, weighed, spotOf}
 use Rattle.rules.specs.Numbers.{pascals, tipRead}
-use Rattle.norm_places.specs.Standing.{InTable}
-use Rattle.norm_places.proofs.Weights.{weighed-le, shared}
+use Rattle.norm_spots.specs.Standing.{InTable}
+use Rattle.norm_spots.proofs.Weights.{weighed-le, shared}
 use Rattle.norm_tips.specs.Cells.{dashOf, tipReadAt}
 use Rattle.norm_tips.proofs.Printing.{cells}
 
-module _ (p : Place) (a b c d : Cell) (e : a ≡ tipCell (p .row) (p .column)) (f : b ≡ tipCell (p .row) (p .column + 1))
+module _ (p : Spot) (a b c d : Cell) (e : a ≡ tipCell (p .row) (p .column)) (f : b ≡ tipCell (p .row) (p .column + 1))
     (g : c ≡ tipCell (p .row + 1) (p .column)) (h : d ≡ tipCell (p .row + 1) (p .column + 1)) where
   dash-is : dashOf p a b c d ≡ dashAt p
   unfolding dashOf dashAt
@@ -33,7 +33,7 @@ module _ (p : Place) (a b c d : Cell) (e : a ≡ tipCell (p .row) (p .column)) (
       let k : r ≡ tipAt p = rw (j, i, e, f, g, h) in
       (rw (v, k), rw k (shared _ (p .span) (10 * cellBound) 100 (weighed-le (λ i j. kpaOf (tipCell i j)) 8 5 cellBound p t cells)))
 
-pub tip-resistance-read : (depth index l : ℕ) (p : Place) (r : TipRead)
-    → l ≡ max 100 index - 100 → p ≡ placeOf tipDepths 1000 8 5 depth l → r ≡ tipReadAt p → r ≡ tipRead depth index
+pub tip-resistance-read : (depth index l : ℕ) (p : Spot) (r : TipRead)
+    → l ≡ max 100 index - 100 → p ≡ spotOf tipDepths 1000 8 5 depth l → r ≡ tipReadAt p → r ≡ tipRead depth index
 unfolding tipReadAt tipRead
 tip-resistance-read depth index l p r e f g = rw (g, f, e)

@@ -11,8 +11,8 @@ use Rattle.rules.specs.declared.Cell.the-variants.{Dash, Kpa}
 use Rattle.rules.specs.Bounds.{cellBound}
 use Rattle.rules.specs.Tables.{tipDepths, tipCell, kpaOf}
 use Rattle.rules.proofs.TableLaws.{every}
-use Rattle.norm_places.specs.Standing.{Deepens}
-use Rattle.norm_places.proofs.Search.{grid, deepens}
+use Rattle.norm_spots.specs.Standing.{Deepens}
+use Rattle.norm_spots.proofs.Search.{grid, deepens}
 use Rattle.norm_tips.specs.Cells.{cellOf, Printed}
 
 -- by millimetres

@@ -7,7 +7,7 @@ use lib.Dec.{eqb}
 use lib.ListN.{getD}
 use Rattle.rules.specs.Base.{pick, either}
 use Rattle.rules.specs.Tables.{tipCell, gap, dashAt, tipAt}
-use Rattle.rules.specs.declared.Place.{Place}
+use Rattle.rules.specs.declared.Spot.{Spot}
 use Rattle.rules.specs.declared.Cell.{Cell}
 use Rattle.rules.specs.declared.Cell.the-variants.{Dash, Kpa}
 use Rattle.rules.specs.declared.TipRead.{TipRead}
@@ -22,7 +22,7 @@ pub record Printed (rows : List (List ℕ)) : Type 0 where
   pub cells : (i j : ℕ) → i < 10 → j < 7 → cellOf (getD (getD rows i []) j 0) ≡ tipCell i j
 
 -- a dash among four cells, with a weight above zero
-unfoldable pub dashOf : Place → Cell → Cell → Cell → Cell → Bool
+unfoldable pub dashOf : Spot → Cell → Cell → Cell → Cell → Bool
 dashOf p a b c d =
     either (gap (p .span - p .down) (10 - p .across) a)
     (either (gap (p .span - p .down) (p .across) b)
@@ -30,5 +30,5 @@ dashOf p a b c d =
     (gap (p .down) (p .across) d)))
 
 -- what the tip table is read to at a place
-unfoldable pub tipReadAt : Place → TipRead
+unfoldable pub tipReadAt : Spot → TipRead
 tipReadAt p = pick (dashAt p) Dashed (Pascals (tipAt p))

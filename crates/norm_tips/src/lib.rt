@@ -1,14 +1,14 @@
 // Table 7.8, read as the pile norm says: resistance under the tip, by depth and index.
 ghost use mathlib.Core.Path.{_≡_};
 ghost use Prim.Native.Nat.{_*_, _/_, _<_, _≤_};
-ghost use Rattle.rules.specs.Tables.{tipCell, kpaOf, gap};
 ghost use Rattle.rules.specs.Bounds.{cellBound, resistanceBound};
+ghost use Rattle.rules.specs.Tables.{tipCell, kpaOf, gap};
 ghost use Rattle.rules.specs.Numbers.{tipRead};
 ghost use Rattle.rules.specs.Numbers as numbers;
-ghost use Rattle.norm_places.specs.Standing.{spanBound, Weights, InTable};
+ghost use Rattle.norm_spots.specs.Standing.{spanBound, Weights, InTable};
 ghost use Rattle.norm_tips.specs.Cells.{cellOf, Printed, dashOf, tipReadAt};
 use rules::Cell;
-use rules::Place;
+use rules::Spot;
 use rules::TipRead;
 
 // Depths in metres.
@@ -73,7 +73,7 @@ fn on_dash(u: u64, v: u64, c: Cell) -> bool
     }
 }
 
-fn any_dash(p: Place, a: Cell, b: Cell, c: Cell, d: Cell) -> bool
+fn any_dash(p: Spot, a: Cell, b: Cell, c: Cell, d: Cell) -> bool
     requires { ⌜ Weights p ⌝ }
     ensures { λ r. ⌜ r ≡ dashOf p a b c d ⌝ }
 {
@@ -102,7 +102,7 @@ fn whole_pascals(w: u64, span: u64) -> u64
 }
 
 // R, or the dash.
-fn tip_at(rows: &[[u16; 7]; 10], p: Place) -> TipRead
+fn tip_at(rows: &[[u16; 7]; 10], p: Spot) -> TipRead
     requires { ⌜ Printed (now rows) × InTable 8 5 p ⌝ }
     ensures { λ r. ⌜ (r ≡ tipReadAt p) × (numbers.pascals r ≤ resistanceBound) ⌝ }
 {
@@ -115,7 +115,7 @@ fn tip_at(rows: &[[u16; 7]; 10], p: Place) -> TipRead
     if any_dash(p, a, b, c, d) {
         return TipRead::Dashed;
     }
-    let w = norm_places::weigh(p, kpa_of(a), kpa_of(b), kpa_of(c), kpa_of(d));
+    let w = norm_spots::weigh(p, kpa_of(a), kpa_of(b), kpa_of(c), kpa_of(d));
     TipRead::Pascals(whole_pascals(w, p.span))
 }
 
@@ -123,7 +123,7 @@ fn tip_at(rows: &[[u16; 7]; 10], p: Place) -> TipRead
 pub fn tip_resistance(depth: u64, index: u8) -> TipRead
     ensures { λ r. ⌜ (r ≡ tipRead depth index) × (numbers.pascals r ≤ resistanceBound) ⌝ }
 {
-    let p = norm_places::place(&DEPTHS, 1000, 8, 5, depth, norm_columns::past(100, index));
+    let p = norm_spots::spot(&DEPTHS, 1000, 8, 5, depth, norm_columns::past(100, index));
     tip_at(&ROWS, p)
 }
 

@@ -1,40 +1,76 @@
 -- What Psamathyr promises, in the paper's words. Each function of the door has a contract with no condition: its reply and every byte it
 -- leaves are those of a definition (calculated, tableAfter, editReply, editLog, editTable, readLog, packedLog ..). The theorems here are
 -- about those definitions; each is proved by citing the theorem of a crate.
-use mathlib.Core.Path.{_≡_, refl, sym, _∙_, ap}
-use mathlib.Core.Bool.{true, false}
-use mathlib.Core.List.{List, [], _∷_, map}
-use Prim.Native.Nat.{ℕ, _-_, _<_}
+use mathlib.Core.Path.{_≡_, sym, _∙_, ap}
+use mathlib.Core.Bool.{Bool, true, false}
+use mathlib.Core.Logic.{_⊎_}
+use mathlib.Core.List.{List, [], _∷_, _++_, map}
+use Prim.Native.Nat.{ℕ, _*_, _-_, _<_, _≤_}
 use native.Mathlib.Omega.{arith}
-use lib.ListN.{length, replicate}
+use lib.ListN.{length, getD, take, drop, replicate}
+use Rattle.rules.specs.declared.Soil.{Soil}
 use Rattle.rules.specs.declared.Log.{Log}
 use Rattle.rules.specs.declared.Pile.{Pile}
 use Rattle.rules.specs.declared.Slice.{Slice}
-use Rattle.rules.specs.declared.Answer.{Answer}
-use Rattle.rules.specs.Base.{refuses, nothing}
-use Rattle.rules.specs.Widths.{Fits}
-use Rattle.rules.specs.Records.{sliceWidths, sliceFields, sliceSize}
-use Rattle.rules.specs.Limits.{rowLimit, limitOf, tableSize}
-use Rattle.rules.specs.Packed.{rowsOf, pileOf, sliceAt, logBytes, pileBytes, sliceBytes, slicesBytes, tableBytes}
-use Rattle.rules.specs.Checks.{depthOf}
-use Rattle.rules.specs.Reading.{noLog, noPile, readLog, readPile, packLogCheck, packedLog, packPileCheck, packedPile}
-use Rattle.rules.specs.Ground.{soilAt, Agree}
-use Rattle.rules.specs.Answers.{refused, answer, slices}
-use Rattle.rules.specs.Calculation.{answerOf, slicesOfRows, freshAnswer, freshTable, lentChecks, calculated, tableAfter}
-use Rattle.rules.specs.Edits.{Edit, asked, editChecks, editedLog, editAnswer, editReply, editLog, editTable, usedSlices, kept}
-use Rattle.rules.specs.Runs.{Call, never, by, run}
+use Rattle.rules.specs.Base.{refuses, nothing, first}
+use Rattle.rules.specs.Widths.{Fits, Bytes}
+use Rattle.rules.specs.Records.{pileSize, sliceWidths, sliceFields, sliceSize}
+use Rattle.rules.specs.Limits.{rowLimit, placeLimit, limitOf, logSize, tableSize}
+use Rattle.rules.specs.Packed.{rowsOf, pileOf, sliceBytes, slicesBytes, tableBytes}
+use Rattle.rules.specs.Ranges.{LogInRange, PileInRange, Sound}
+use Rattle.rules.specs.Ground.{depthOf, soilAt, Agree}
+use Rattle.rules.specs.Pieces.{strata, topOf, cutParts, pieces, runTop}
+use Rattle.rules.specs.Tables.{frictionWeighed}
+use Rattle.rules.specs.Numbers.{belowTip, friction, frictionSpot, shaftSlices, thicknessSum, lineOf, resistance}
+use Rattle.rules.specs.Edits.{Edit, asked, editedLog}
+use Rattle.rules.specs.Checks.{oneToFour, fiveOn, thirteenOn, lentChecks, groundChecks, calculationChecks, editChecks, LentPassed, Accepted, Numbered, OneOf}
+use Rattle.rules.specs.Reading.{noLog, noPile, noSlice, readLog, readPile, readSlice, packLogCheck, packedLog, packPileCheck, packedPile}
+use Rattle.rules.specs.Answers.{refused, numbers, answer, heldSlices}
+use Rattle.rules.specs.Calculation.{answerOf, heldSlicesOf, freshAnswer, freshTable, calculated, tableAfter}
+use Rattle.rules.specs.EditReplies.{editReply, editLog, editTable, keptOf, withKept, AsCalculated}
+use Rattle.rules.specs.Runs.{Call, Desk, run, desk, answerHeld, anyAccepted, Afresh, AfterRun}
 use Rattle.rules.specs.Cases.{work, print, cases}
-use Rattle.rules.proofs.AnswerLaws.{refused-from}
+use Rattle.rules.specs.WorkedEdits.{rightAfter, foundAfter, workedEdits}
+use Rattle.rules.proofs.RefusalLaws.{first-off}
+use Rattle.rules.proofs.AnswerLaws.{refused-ground}
+use Rattle.rules.proofs.OrderLaws as OrderLaws
+use Rattle.rules.proofs.ListedLaws as ListedLaws
+use Rattle.rules.proofs.SoundLaws as SoundLaws
+use Rattle.rules.proofs.FitLaws as FitLaws
+use Rattle.rules.proofs.TableLaws as TableLaws
 use Rattle.rules.proofs.Known as Known
+use Rattle.rules.proofs.KnownEdits as KnownEdits
+use Rattle.rules.proofs.StratumLaws as StratumLaws
 use Rattle.rules.proofs.RunLaws as RunLaws
-use Rattle.rules.proofs.Replies as Replies
-use Rattle.rules.proofs.PlacesLaws.{Bytes}
 use Rattle.record_packing.proofs.RoundTrip as LogTrip
 use Rattle.record_piles.proofs.RoundTrip as PileTrip
-use Rattle.record_slices.proofs.RoundTrip as SliceTrip
+use Rattle.record_slice_table.proofs.RoundTrip as SliceTrip
 use Rattle.edit_reply.proofs.Promise as Edits
+use Rattle.edit_reply.proofs.AfterRun as Run
 
 -- Demand 1. "Every log, pile record, slice table and edit, however damaged, gets a reply": no contract of the door has a condition.
+
+-- "A calculation checks 1 to 12, then 15, in order.": the first that refuses is the one replied
+pub first-in-order : (log pile table : List ℕ) → calculated log pile table .refusal ≡ calculationChecks log pile table
+first-in-order log pile table = OrderLaws.calculation-refusal log pile table
+
+-- "An edit checks 1 to 4 of what is lent, 13, 14, then 3 for its new row (row number k), then 4 for the new log; these refuse the edit. After
+-- that 5 to 12 and 15 refuse nothing: they become the held answer."
+pub first-in-order-of-an-edit : (e : Edit) (log pile table : List ℕ)
+    → editReply e log pile table .refusal ≡ first (editChecks e log pile table) (groundChecks (soilAt (rowsOf (editedLog e log))) (depthOf (rowsOf (editedLog e log))) (pileOf pile))
+first-in-order-of-an-edit e log pile table = OrderLaws.edit-refusal e log pile table
+
+-- each check of these lists refuses with its own number, or tells nothing
+pub listed : (wrong : Bool) (e : Edit) (log : List ℕ) (g : ℕ → Soil) (depth : ℕ) (p : Pile)
+    → Numbered (1 ∷ 2 ∷ 3 ∷ 4 ∷ 5 ∷ 6 ∷ 7 ∷ 8 ∷ 9 ∷ 10 ∷ 11 ∷ 12 ∷ 15 ∷ []) (oneToFour wrong log ++ fiveOn g depth p)
+    × Numbered (1 ∷ 2 ∷ 3 ∷ 4 ∷ 13 ∷ 14 ∷ 3 ∷ 4 ∷ []) (oneToFour wrong log ++ thirteenOn e log)
+listed wrong e log g depth p = (ListedLaws.calculation-listed wrong log g depth p, ListedLaws.edit-listed wrong e log)
+
+-- so a refused edit and an accepted one that holds a refusal differ by the number
+pub told-by-number : (e : Edit) (log pile table : List ℕ) (g : ℕ → Soil) (depth : ℕ) (p : Pile)
+    → (OneOf (1 ∷ 2 ∷ 3 ∷ 4 ∷ 13 ∷ 14 ∷ 3 ∷ 4 ∷ []) (editChecks e log pile table .number) ⊎ (editChecks e log pile table ≡ nothing))
+    × (OneOf (5 ∷ 6 ∷ 7 ∷ 8 ∷ 9 ∷ 10 ∷ 11 ∷ 12 ∷ 15 ∷ []) (groundChecks g depth p .number) ⊎ (groundChecks g depth p ≡ nothing))
+told-by-number e log pile table g depth p = (ListedLaws.edit-number e log pile table, ListedLaws.ground-number g depth p)
 
 -- "a calculation refused by 1 to 4, changes no buffer", "zeros for line, tip, shaft, capacity, uplift and kept"
 pub refused-calculation : (log pile table : List ℕ) → refuses (lentChecks log pile table) ≡ true
@@ -43,11 +79,11 @@ unfolding calculated tableAfter
 refused-calculation log pile table h = (rw h, rw h)
 
 -- "Under 5 to 12 or 15 the table becomes all zero"
-pub refused-pile : (log pile table : List ℕ) → refuses (lentChecks log pile table) ≡ false → refuses (calculated log pile table .refusal) ≡ true
+pub refused-pile : (log pile table : List ℕ) → LentPassed log pile table → refuses (calculated log pile table .refusal) ≡ true
     → (calculated log pile table ≡ refused (calculated log pile table .refusal)) × (tableAfter log pile table ≡ replicate (tableSize (limitOf log)) 0)
-unfolding calculated tableAfter freshAnswer freshTable answerOf slicesOfRows answer slices tableBytes slicesBytes
+unfolding calculated tableAfter freshAnswer freshTable answerOf heldSlicesOf tableBytes slicesBytes
 refused-pile log pile table h g =
-    let k = refused-from _ _ _ _ _ (rw h at g) in
+    let k = refused-ground _ _ _ (rw h at g) in
     let size = tableSize (limitOf log) in
     let z : size - 0 ≡ size = omega arith in
     (rw h (k .0), rw h (ap (tableBytes size) (k .1) ∙ ap (λ (n : ℕ). replicate {A = ℕ} n 0) z))
@@ -57,6 +93,11 @@ pub refused-edit : (e : Edit) (log pile table : List ℕ) → refuses (editCheck
     → (editReply e log pile table ≡ refused (editChecks e log pile table)) × (editLog e log pile table ≡ log) × (editTable e log pile table ≡ table)
 unfolding editReply editLog editTable
 refused-edit e log pile table h = (rw h, rw h, rw h)
+
+-- "Under 5 to 12 or 15 the table becomes all zero; the log holds the edit": and "zeros for line, tip, shaft, capacity, uplift and kept"
+pub refused-pile-of-an-edit : (e : Edit) (log pile table : List ℕ) → Accepted e log pile table → refuses (editReply e log pile table .refusal) ≡ true
+    → (editReply e log pile table ≡ refused (editReply e log pile table .refusal)) × (editTable e log pile table ≡ replicate (length table) 0) × (editLog e log pile table ≡ editedLog e log)
+refused-pile-of-an-edit e log pile table h g = Edits.pile-refused e log pile table h g
 
 -- "a refused reading gives zero fields, a refused packing changes no buffer"
 pub refused-reading : (s : List ℕ) → (refuses (readLog s .refusal) ≡ true → readLog s .log ≡ noLog) × (refuses (readPile s .refusal) ≡ true → readPile s .pile ≡ noPile)
@@ -68,62 +109,118 @@ pub refused-packing : (l : Log) (p : Pile) (s : List ℕ)
 unfolding packedLog packedPile
 refused-packing l p s = (λ h. rw h, λ h. rw h)
 
--- Demand 2. "exactly the norm's as document 01 condenses it": every number that 01 prints for its cases A to L.
+-- Demand 2. "exactly the norm's as document 01 condenses it": every number that 01 prints for its cases A to L,
+-- each with its whole reply.
 pub cases-a-to-l : map work cases ≡ map print cases
 cases-a-to-l = Known.known-numbers
 
+-- Worked edits, with reply, kept, log and table: each of the four kinds accepted, 13, 14, 3 and 4, and one that holds a refusal of the pile.
+pub worked-edits : map foundAfter workedEdits ≡ map rightAfter workedEdits
+worked-edits = KnownEdits.worked-edits
+
+-- "a log that passes the checks has its numbers": a pile stands in its ground where what 01 asks of it holds (Sound, in facts), and then the
+-- reply is the five numbers and the table holds the slices of the shaft; and only a pile that stands is not refused.
+pub numbers-where-sound : (log pile table : List ℕ) → LentPassed log pile table → Sound (soilAt (rowsOf log)) (depthOf (rowsOf log)) (pileOf pile)
+    → (calculated log pile table ≡ numbers (soilAt (rowsOf log) (belowTip (pileOf pile))) (pileOf pile) (resistance (pileOf pile) (soilAt (rowsOf log) (belowTip (pileOf pile)))) (lineOf (shaftSlices (soilAt (rowsOf log)) (pileOf pile))))
+    × (tableAfter log pile table ≡ tableBytes (tableSize (limitOf log)) (shaftSlices (soilAt (rowsOf log)) (pileOf pile)))
+numbers-where-sound log pile table h s = SoundLaws.sound-numbers log pile table h s
+
+pub sound-where-not-refused : (g : ℕ → Soil) (depth : ℕ) (p : Pile) → refuses (groundChecks g depth p) ≡ false → Sound g depth p
+sound-where-not-refused g depth p h = SoundLaws.passes-sound g depth p h
+
 -- A log that passes the checks has the numbers and the slices of its ground, millimetre by millimetre.
-pub answered : (log pile table : List ℕ) → refuses (lentChecks log pile table) ≡ false
+pub answered : (log pile table : List ℕ) → LentPassed log pile table
     → (calculated log pile table ≡ answer (soilAt (rowsOf log)) (depthOf (rowsOf log)) (pileOf pile))
-    × (tableAfter log pile table ≡ tableBytes (tableSize (limitOf log)) (slices (soilAt (rowsOf log)) (depthOf (rowsOf log)) (pileOf pile)))
-unfolding calculated tableAfter freshAnswer freshTable answerOf slicesOfRows
+    × (tableAfter log pile table ≡ tableBytes (tableSize (limitOf log)) (heldSlices (soilAt (rowsOf log)) (depthOf (rowsOf log)) (pileOf pile)))
+unfolding calculated tableAfter freshAnswer freshTable answerOf heldSlicesOf
 answered log pile table h = (rw h, rw h)
 
--- "kept is that of the two tables"
-pub kept-is : (e : Edit) (log pile table : List ℕ) → refuses (editChecks e log pile table) ≡ false
-    → editReply e log pile table .kept ≡ kept (usedSlices (editedLog e log) pile) (editTable e log pile table) table
-unfolding editReply editTable editAnswer
-kept-is e log pile table h = rw h
+-- "The part of each stratum between head and tip is cut from its top into slices of 2,000 mm; the last takes what is left": in order, of the
+-- strata of a ground g that is `depth` deep
+pub cut-by-strata : (g : ℕ → Soil) (head tip depth : ℕ) → tip ≤ depth → pieces g head tip ≡ cutParts g head tip (strata g depth)
+cut-by-strata g head tip depth h = StratumLaws.cut-by-strata g head tip depth h
 
--- "records round-trip both ways"
-pub log-round-trip : (l : Log) (s : List ℕ) → length (l .rows) ≡ rowLimit → refuses (packLogCheck l s) ≡ false
-    → readLog (logBytes (limitOf s) l) ≡ record { refusal = nothing; log = l }
-log-round-trip l s e h = LogTrip.log-packed-read l s e h
+-- "tip-stratum top": of the stratum that holds millimetre m
+pub top-of-stratum : (g : ℕ → Soil) (m depth : ℕ) → m < depth → runTop g (g m) m ≡ topOf (strata g depth) m
+top-of-stratum g m depth h = StratumLaws.top-of-stratum g m depth h
 
-pub log-round-trip-back : (s : List ℕ) → Bytes s → refuses (readLog s .refusal) ≡ false → logBytes (limitOf s) (readLog s .log) ≡ s
-log-round-trip-back s b h = LogTrip.log-read-packed s b h
+-- "Slice thicknesses add up to tip less head."
+pub slices-add-up : (log pile table : List ℕ) → refuses (calculated log pile table .refusal) ≡ false
+    → thicknessSum (heldSlices (soilAt (rowsOf log)) (depthOf (rowsOf log)) (pileOf pile)) ≡ pileOf pile .tip - pileOf pile .head
+unfolding heldSlices
+slices-add-up log pile table h =
+    let g = first-off (lentChecks log pile table) _ (rw (OrderLaws.two-groups log pile table) at h) in
+    rw (g .1) (FitLaws.slices-add-up (soilAt (rowsOf log)) (pileOf pile))
 
-pub pile-round-trip : (p : Pile) (s : List ℕ) → p .head < 65536 → p .tip < 65536 → refuses (packPileCheck p s) ≡ false → readPile (pileBytes p) ≡ record { refusal = nothing; pile = p }
-pile-round-trip p s i j h = PileTrip.pile-packed-read p s i j h
+-- "Friction is kept in units of 1/200 Pa, in which it is always whole.": the division leaves no remainder
+pub friction-whole : (s : Soil) (mid : ℕ) → friction s mid * frictionSpot s mid .span ≡ frictionWeighed (frictionSpot s mid) * 20000
+friction-whole s mid = TableLaws.friction-whole s mid
 
-pub pile-round-trip-back : (s : List ℕ) → Bytes s → refuses (readPile s .refusal) ≡ false → pileBytes (readPile s .pile) ≡ s
-pile-round-trip-back s b h = PileTrip.pile-read-packed s b h
+-- "how many leading slices of the new table already had the same seven bytes at the same place in the lent table": of the two tables alone
+pub kept-is : (e : Edit) (log pile table : List ℕ) → Accepted e log pile table → editReply e log pile table .kept ≡ keptOf (editTable e log pile table) table
+kept-is e log pile table h = Edits.kept-of-two e log pile table h
 
-pub slice-round-trip : (c : Slice) (s : List ℕ) → Fits sliceWidths (sliceFields c) → length s ≡ sliceSize → Bytes s → (sliceAt (sliceBytes c) 0 ≡ c) × (sliceBytes (sliceAt s 0) ≡ s)
-slice-round-trip c s f e b = (SliceTrip.slice-packed-read c f, SliceTrip.slice-read-packed s e b)
+-- "records round-trip both ways": fields in range pack into a buffer of the right length, and are read from it; and what is read of bytes packs
+-- into any buffer of that length, and leaves it with these bytes.
+pub log-round-trip : (l : Log) (s : List ℕ) → LogInRange l → length s ≡ logSize rowLimit
+    → (packLogCheck l s ≡ nothing) × (readLog (packedLog l s) ≡ record { refusal = nothing; log = l })
+log-round-trip l s r h = LogTrip.log-there l s r h
+
+pub log-round-trip-back : (s t : List ℕ) → Bytes s → length t ≡ length s → refuses (readLog s .refusal) ≡ false
+    → (packLogCheck (readLog s .log) t ≡ nothing) × (packedLog (readLog s .log) t ≡ s)
+log-round-trip-back s t b h g = LogTrip.log-back s t b h g
+
+-- and what is read is in these ranges
+pub read-in-range : (s : List ℕ) → (refuses (readLog s .refusal) ≡ false → LogInRange (readLog s .log)) × (refuses (readPile s .refusal) ≡ false → PileInRange (readPile s .pile))
+read-in-range s = (λ h. LogTrip.log-in-range s h, λ h. PileTrip.pile-read-in-range s h)
+
+pub pile-round-trip : (p : Pile) (s : List ℕ) → PileInRange p → length s ≡ pileSize
+    → (packPileCheck p s ≡ nothing) × (readPile (packedPile p s) ≡ record { refusal = nothing; pile = p })
+pile-round-trip p s r h = PileTrip.pile-there p s r h
+
+pub pile-round-trip-back : (s t : List ℕ) → Bytes s → length t ≡ length s → refuses (readPile s .refusal) ≡ false
+    → (packPileCheck (readPile s .pile) t ≡ nothing) × (packedPile (readPile s .pile) t ≡ s)
+pile-round-trip-back s t b h g = PileTrip.pile-back s t b h g
+
+pub slice-round-trip : (cs : List Slice) (i : ℕ) → ((k : ℕ) → k < length cs → Fits sliceWidths (sliceFields (getD cs k noSlice))) → length cs ≤ placeLimit
+    → readSlice (tableBytes (tableSize rowLimit) cs) i ≡ record { refusal = 0; slice = getD cs i noSlice }
+slice-round-trip cs i f h = SliceTrip.table-there cs i f h
+
+pub slice-round-trip-back : (s : List ℕ) (i : ℕ) → Bytes s → length s ≡ tableSize rowLimit → i < placeLimit
+    → (readSlice s i .refusal ≡ 0) × (sliceBytes (readSlice s i .slice) ≡ take sliceSize (drop (i * sliceSize) s))
+slice-round-trip-back s i b h l = SliceTrip.place-back s i b h l
+
+-- "An accepted edit changes the log": the log is the edited one, the table and the answer are those worked out afresh of it
+pub accepted-edit : (e : Edit) (log pile table : List ℕ) → Accepted e log pile table
+    → (editLog e log pile table ≡ editedLog e log) × (editTable e log pile table ≡ freshTable (editedLog e log) pile)
+    × (editReply e log pile table ≡ withKept (keptOf (editTable e log pile table) table) (freshAnswer (editedLog e log) pile))
+accepted-edit e log pile table h = Edits.accepted-edit e log pile table h
 
 -- Demand 3. "After any run of edits the held answer and slice table are those worked out afresh from which soil stands at each millimetre.":
--- from any log and table bytes, once an edit is accepted, with the pile record of the last accepted edit.
-pub after-any-run : (cs : List Call) (log table pile : List ℕ) (a : Answer) → run cs (record { log = log; table = table; held = never }) .held ≡ by pile a
-    → (a ≡ freshAnswer (run cs (record { log = log; table = table; held = never }) .log) pile)
-    × (run cs (record { log = log; table = table; held = never }) .table ≡ freshTable (run cs (record { log = log; table = table; held = never }) .log) pile)
-after-any-run cs log table pile a h = RunLaws.afresh cs log table pile a h
+-- from any log and table bytes, once an edit of the run is accepted, and with the pile record of the last accepted one.
+pub after-any-run : (cs : List Call) (log table : List ℕ) → anyAccepted cs (desk log table) ≡ true → AfterRun cs (desk log table)
+after-any-run cs log table h = Run.after-any-run cs (desk log table) h
+
+-- and where none is accepted nothing has changed
+pub none-accepted : (cs : List Call) (d : Desk) → anyAccepted cs d ≡ false → run cs d ≡ d
+none-accepted cs d h = Run.none-after cs d h
 
 -- where afresh is of the ground alone
-pub afresh-is : (log pile : List ℕ) → (freshAnswer log pile ≡ answer (soilAt (rowsOf log)) (depthOf (rowsOf log)) (pileOf pile))
-    × (freshTable log pile ≡ tableBytes (tableSize (limitOf log)) (slices (soilAt (rowsOf log)) (depthOf (rowsOf log)) (pileOf pile)))
-unfolding freshAnswer freshTable answerOf slicesOfRows
-afresh-is log pile = (refl, refl)
+pub afresh-is : (c : Call) (lent now : Desk) → Afresh c lent now
+    → (answerHeld c lent ≡ answer (soilAt (rowsOf (now .log))) (depthOf (rowsOf (now .log))) (pileOf (c .pile)))
+    × (now .table ≡ tableBytes (tableSize (limitOf (now .log))) (heldSlices (soilAt (rowsOf (now .log))) (depthOf (rowsOf (now .log))) (pileOf (c .pile))))
+afresh-is c lent now a = let k = answered (now .log) (c .pile) (now .table) (a .pieces) in (sym (a .answer) ∙ k .0, sym (a .table) ∙ k .1)
 
 -- "So two logs that agree at every millimetre give equal answers and tables, however typed."
-pub however-typed : (a b pile t u : List ℕ) → refuses (lentChecks a pile t) ≡ false → refuses (lentChecks b pile u) ≡ false → Agree (rowsOf a) (rowsOf b)
+pub however-typed : (a b pile t u : List ℕ) → LentPassed a pile t → LentPassed b pile u → Agree (rowsOf a) (rowsOf b)
     → (calculated a pile t ≡ calculated b pile u) × (tableAfter a pile t ≡ tableAfter b pile u)
 however-typed a b pile t u p q h = RunLaws.however-typed a b pile t u p q h
 
--- A split changes neither answer nor table.
-pub split-changes-nothing : (k x : ℕ) (row log pile table : List ℕ) → Edits.Taken (asked 4 k x row) log pile table → Edits.AsCalculated (asked 4 k x row) log log pile table
+-- "Rows do not matter, only millimetres do.": an accepted split is answered as a calculation of the log unsplit, and an edit that leaves as one
+-- row what a split would part as a calculation of the log in parts.
+pub split-changes-nothing : (k x : ℕ) (row log pile table : List ℕ) → Accepted (asked 4 k x row) log pile table → AsCalculated (asked 4 k x row) log log pile table
 split-changes-nothing k x row log pile table h = Edits.split-changes-nothing k x row log pile table h
 
--- Any two replies that a contract allows are equal.
-pub one-reply : {A B : Type 0} (f : A → B) (arguments : A) (reply other : B) → reply ≡ f arguments → other ≡ f arguments → reply ≡ other
-one-reply f arguments reply other h g = Replies.one-reply f arguments reply other h g
+pub merge-changes-nothing : (e : Edit) (k x : ℕ) (log pile table : List ℕ) → Accepted e log pile table → Accepted (asked 4 k x []) (editedLog e log) pile table
+    → AsCalculated e log (editedLog (asked 4 k x []) (editedLog e log)) pile table
+merge-changes-nothing e k x log pile table h g = Edits.merge-changes-nothing e k x log pile table h g

@@ -4,10 +4,11 @@ use rules::LogRead;
 use rules::PileRead;
 use rules::SliceRead;
 ghost use mathlib.Core.Path.{_≡_};
+ghost use Rattle.rules.specs.Edits.{asked};
 ghost use Rattle.rules.specs.Reading.{readLog, readPile, readSlice, packLogCheck, packedLog, packPileCheck, packedPile};
 ghost use Rattle.rules.specs.Answers.{refused};
 ghost use Rattle.rules.specs.Calculation.{calculated, tableAfter};
-ghost use Rattle.rules.specs.Edits.{asked, editReply, editLog, editTable};
+ghost use Rattle.rules.specs.EditReplies.{editReply, editLog, editTable};
 
 #[no_mangle]
 pub extern "C" fn psamathyr_calculate(log: &[u8], pile: &[u8], table: &mut [u8]) -> Answer

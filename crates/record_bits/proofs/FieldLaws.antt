@@ -5,7 +5,7 @@ use Prim.Native.Nat.{ℕ, _+_, _*_, _-_, _/_, _%_, _^_}
 use native.Mathlib.Nat.{mod-add-mod, zero-mul, zero-add, add-zero, add-assoc, add-mul, mul-assoc}
 use native.Mathlib.Omega.{arith}
 use lib.Pow.{pow-add, shr-shr}
-use Rattle.rules.specs.Widths.{bitsOf, cut, join, bytes}
+use Rattle.rules.specs.Widths.{bitsOf, fieldsOf, join, bytes}
 use Rattle.rules.proofs.WidthLaws.{cut-mod}
 use Rattle.record_bits.specs.Word.{wordSize, wordBits, fieldOf, Taken, Written}
 
@@ -16,7 +16,7 @@ pub data Taking : ℕ → ℕ → List ℕ → List ℕ → Type 0 where
   _then_ : {w at n v w′ at′ : ℕ} {ns vs : List ℕ} → Taken w at n v w′ at′ → Taking w′ at′ ns vs → Taking w at (n ∷ ns) (v ∷ vs)
 
 -- k bits of the word, those that x lacks, are behind them
-pub fields-taken : (k : ℕ) {w at x : ℕ} {ws vs : List ℕ} → Taking w at ws vs → at + (bitsOf ws + k) ≡ wordBits → w / 2 ^ k ≡ x → vs ≡ cut ws x
+pub fields-taken : (k : ℕ) {w at x : ℕ} {ws vs : List ℕ} → Taking w at ws vs → at + (bitsOf ws + k) ≡ wordBits → w / 2 ^ k ≡ x → vs ≡ fieldsOf ws x
 unfolding fieldOf
 fields-taken k end h f = refl
 fields-taken k (_then_ {w} {at} {n} {v} {w′} {at′} {ns} {vs} t on) h f =
@@ -37,7 +37,7 @@ fields-put k (_then_ {w} {at} {n} {v} {w₁} {at₁} {w′} {ns} {vs} p on) h =
     fields-put k on i ∙ rw (p .sum, e, mod-add-mod, pow-add, add-mul, mul-assoc, add-assoc)
 
 -- the bytes of the word that they make, where k bits are behind them
-pub bytes-put : (k : ℕ) {at w y : ℕ} {b ws vs : List ℕ} → b ≡ cut (bytes wordSize) w → Putting 0 at ws vs w → at + (bitsOf ws + k) ≡ wordBits → join ws vs * 2 ^ k ≡ y → b ≡ cut (bytes wordSize) y
+pub bytes-put : (k : ℕ) {at w y : ℕ} {b ws vs : List ℕ} → b ≡ fieldsOf (bytes wordSize) w → Putting 0 at ws vs w → at + (bitsOf ws + k) ≡ wordBits → join ws vs * 2 ^ k ≡ y → b ≡ fieldsOf (bytes wordSize) y
 bytes-put k {w = w} {y = y} e p h f =
-    let same : (x : ℕ) → cut (bytes wordSize) (x % 2 ^ wordBits) ≡ cut (bytes wordSize) x = cut-mod (bytes wordSize) 0 in
-    e ∙ sym (same w) ∙ ap (cut (bytes wordSize)) (fields-put k p h ∙ rw (zero-add, f)) ∙ same y
+    let same : (x : ℕ) → fieldsOf (bytes wordSize) (x % 2 ^ wordBits) ≡ fieldsOf (bytes wordSize) x = cut-mod (bytes wordSize) 0 in
+    e ∙ sym (same w) ∙ ap (fieldsOf (bytes wordSize)) (fields-put k p h ∙ rw (zero-add, f)) ∙ same y

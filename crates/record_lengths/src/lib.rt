@@ -8,7 +8,7 @@ use rules::TABLE_SIZE;
 ghost use mathlib.Core.Path.{_≡_};
 ghost use Prim.Native.Nat.{_≤_};
 ghost use Rattle.rules.specs.Limits.{rowLimit, forms, logSize, tableSize, formBy};
-ghost use Rattle.rules.specs.Calculation.{lengthsWrong};
+ghost use Rattle.rules.specs.Checks.{lengthsWrong};
 
 // The row limit of a log of so many bytes; 0 where no form is that long.
 pub fn row_limit(len: usize) -> usize

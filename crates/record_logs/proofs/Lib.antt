@@ -1,5 +1,2 @@
--- Laws of a log that is checked and read.
-pub mod BlankLaws
-pub mod CheckLaws
+-- Laws of a log that is read.
 pub mod ReadLaws
-pub mod RowsLaws

@@ -1,2 +1,2 @@
--- What checking a log comes to, with the depth of its rows.
-pub mod Checks
+-- Check 3 of rows that are read.
+pub mod Rows

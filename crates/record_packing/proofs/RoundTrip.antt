@@ -1,37 +1,40 @@
--- A log that was packed is read, and one that was read packs to the same bytes: the bytes are those of the used rows, and zero places follow.
+-- A log whose fields are in range packs, and reads as these fields; and what is read of a log packs, into any buffer as long, to the same bytes.
 use mathlib.Core.Path.{_≡_, refl, ap, ap₂, sym, _∙_}
 use mathlib.Core.Bool.{true, false}
 use mathlib.Core.List.{List, [], _∷_, _++_}
 use Prim.Native.Nat.{ℕ, zero, suc, _+_, _*_, _-_, _<_, _≤_}
 use native.Mathlib.Omega.{arith}
-use borrow.Author.Tests.{eqb-false, le-ltb, ne-eqb}
-use lib.ListN.{length, take, drop, replicate, length-drop, take-append-drop}
-use lib.Seq.{take-all, length-take-le}
+use borrow.Author.Tests.{le-ltb, ne-eqb}
+use lib.ListN.{length, getD, take, drop, replicate, length-append, length-drop, length-replicate, take-append-drop, List·getD-append}
+use lib.Seq.{take-all, take-at, drop-at, getD-take, getD-drop, length-take-le}
 use Rattle.rules.specs.declared.Row.{Row}
 use Rattle.rules.specs.declared.Log.{Log}
 use Rattle.rules.specs.Base.{nothing, refuses, allZero, first, when}
-use Rattle.rules.specs.Widths.{bytes}
-use Rattle.rules.specs.Records.{rowFields, rowSize}
-use Rattle.rules.specs.Limits.{rowLimit, limitOf}
+use Rattle.rules.specs.Widths.{Bytes}
+use Rattle.rules.specs.Records.{rowSize}
+use Rattle.rules.specs.Limits.{rowLimit, logSize, limitOf}
 use Rattle.rules.specs.Packed.{countOf, rowsOf, logOf, noRow, rowBytes, placesBytes, logBytes, logFor}
-use Rattle.rules.specs.Checks.{formless, unusedWrong, firstWrong, fieldChecks}
-use Rattle.rules.specs.Reading.{rowZero, rowsZero, unusedFields, readLog, packLogCheck}
-use Rattle.rules.proofs.Basics.{both-left, both-right}
-use Rattle.rules.proofs.FormLaws.{limit-long, limit-most}
+use Rattle.rules.specs.Ranges.{LogInRange}
+use Rattle.rules.specs.Checks.{formless, unusedWrong, firstWrong}
+use Rattle.rules.specs.Reading.{rowsZero, unusedFields, readLog, packLogCheck, packedLog}
+use Rattle.rules.proofs.FormLaws.{limit-long, limit-most, limit-same}
 use Rattle.rules.proofs.PassedLaws.{count-length, log-limit, log-has}
-use Rattle.rules.proofs.PlacesLaws.{Bytes, log-blank, log-whole}
-use Rattle.rules.proofs.RangeLaws.{Fit, fit-of, of-fit}
+use Rattle.rules.proofs.PlacesLaws.{log-blank, log-whole}
+use Rattle.rules.proofs.RangeLaws.{Fit, fit-of, of-fit, fit-at}
+use Rattle.rules.proofs.InRangeLaws.{rows-right, row-in-range}
 use Rattle.rules.proofs.RefusalLaws.{first-off, when-off}
-use Rattle.record_logs.proofs.ReadLaws.{right, counted, all-zero, padded}
+use Rattle.record_log_checks.proofs.CountLaws.{counted}
+use Rattle.record_logs.proofs.ReadLaws.{padded}
 
--- fields that are 0
-zero-rows : (rs : List Row) → rowsZero rs ≡ true → rs ≡ replicate (length rs) noRow
-unfolding rowsZero
-zero-rows [] h = refl
-zero-rows (r ∷ rs) h = ap₂ (λ (x : Row) (t : List Row). x ∷ t) (zero-is r (both-left (rowZero r) (rowsZero rs) h)) (zero-rows rs (both-right (rowZero r) (rowsZero rs) h))
-  where
-    zero-is : (r : Row) → rowZero r ≡ true → r ≡ noRow
-    zero-is r h = let z = all-zero (rowFields r) h in λ i. record { thickness = z 0 i; kind = z 1 i; index = z 2 i; saturation = z 3 i; zero = z 4 i }
+-- rows that are all zero
+no-rows : (rs : List Row) → ((k : ℕ) → getD rs k noRow ≡ noRow) → rs ≡ replicate (length rs) noRow
+no-rows [] h = refl
+no-rows (r ∷ rs) h = ap₂ (λ (x : Row) (t : List Row). x ∷ t) (h 0) (no-rows rs (λ k. h (suc k)))
+
+rows-zero : (n : ℕ) → rowsZero (replicate n noRow) ≡ true
+unfolding rowsZero allZero
+rows-zero zero = refl
+rows-zero (suc n) = rows-zero n
 
 -- zero places behind the rows make no other bytes
 places-pad : (n : ℕ) (rs : List Row) (k : ℕ) → placesBytes n (rs ++ replicate k noRow) ≡ placesBytes n rs
@@ -45,45 +48,117 @@ log-bytes : (n : ℕ) (l : Log) (rs : List Row) (k : ℕ) → l .count ≡ lengt
 unfolding logBytes logFor
 log-bytes n l rs k e f = rw (e, f, places-pad n rs k)
 
-formed : (s : List ℕ) → refuses (when (formless s) 1) ≡ false → 0 < limitOf s
-formed s h = let z : limitOf s ≡ 0 → ⊥ = eqb-false (limitOf s) 0 (when-off 0 (formless s) h) in omega (arith, z)
-
 -- what is read of bytes t that pass checks 1 to 3
 read-is : (t : List ℕ) (l : Log) → 0 < limitOf t → 1 ≤ countOf t → countOf t ≤ limitOf t → allZero (drop (1 + countOf t * rowSize) t) ≡ true → Fit (rowsOf t)
     → l .count ≡ countOf t → l .rows ≡ rowsOf t ++ replicate (rowLimit - countOf t) noRow → readLog t ≡ record { refusal = nothing; log = l }
-unfolding readLog fieldChecks unusedWrong first when logOf
+unfolding readLog unusedWrong first when logOf
 read-is t l f o m b fit e g =
     rw (ne-eqb (limitOf t) 0 (λ z. omega arith), ne-eqb (countOf t) 0 (λ z. omega arith), le-ltb _ _ m, b, of-fit 1 (rowsOf t) fit, padded t (omega (arith, limit-most t)) b, ← g, ← e)
 
-pub log-packed-read : (l : Log) (s : List ℕ) → length (l .rows) ≡ rowLimit → refuses (packLogCheck l s) ≡ false
-    → readLog (logBytes (limitOf s) l) ≡ record { refusal = nothing; log = l }
-unfolding packLogCheck unusedFields logFor
-log-packed-read l s e h =
-    let n = limitOf s in
-    let c = l .count in
-    let used = take c (l .rows) in
-    let a = first-off (when (formless s) 1) (first (when (unusedFields n l) 2) (firstWrong 1 used)) h in
-    let u = first-off (when (unusedFields n l) 2) (firstWrong 1 used) (a .1) in
-    let form = formed s (a .0) in
-    let two = right n c (rowsZero (drop c (take rowLimit (l .rows)))) (when-off 1 (unusedFields n l) (u .0)) in
-    let fit : Fit used = fit-of 1 used (u .1) in
-    let all : take rowLimit (l .rows) ≡ l .rows = take-all rowLimit (l .rows) (omega arith) in
-    let long : length used ≡ c = length-take-le c (l .rows) (omega (arith, two .1, limit-most s)) in
-    let rest : length (drop c (l .rows)) ≡ rowLimit - c = rw (length-drop, e) in
-    let rows : l .rows ≡ used ++ replicate (rowLimit - c) noRow =
-    sym (take-append-drop c (l .rows)) ∙ ap (λ (t : List Row). used ++ t) (rw rest at (zero-rows (drop c (l .rows)) (rw all at (two .2)))) in
-    let few : length used ≤ n = omega (arith, two .1) in
-    let has = log-has s form used few fit in
-    let limit = log-limit s form used in
-    rw (log-bytes n l used (rowLimit - c) (sym long) rows)
-    (read-is (logFor n used) l (rw limit form) (omega (arith, two .0)) (rw limit few) (log-blank n used few) (rw has fit) (sym long) (rw (has, long) rows))
+-- Fields that are those of the rows rs, each in range, with zero rows behind them, packed into the buffer s of some form.
+module _ (l : Log) (s : List ℕ) (rs : List Row) (form : 0 < limitOf s) (some : 1 ≤ length rs) (few : length rs ≤ limitOf s) (fit : Fit rs)
+    (count : l .count ≡ length rs) (rows : l .rows ≡ rs ++ replicate (rowLimit - length rs) noRow) where
+  packs : packLogCheck l s ≡ nothing
+  unfolding packLogCheck unusedFields first when
+  packs =
+      let n = length rs in
+      let zeros = replicate (rowLimit - n) noRow in
+      let long : length (l .rows) ≤ rowLimit = rw rows (simp (length-append, length-replicate) (omega (arith, limit-most s))) in
+      let blank : rowsZero (drop n (take rowLimit (l .rows))) ≡ true = rw (take-all rowLimit (l .rows) long, rows, drop-at rs zeros n refl) (rows-zero (rowLimit - n)) in
+      let used : take n (l .rows) ≡ rs = rw (rows, take-at rs zeros n refl) in
+      rw (ne-eqb (limitOf s) 0 (λ z. omega arith), count, ne-eqb n 0 (λ z. omega arith), le-ltb (limitOf s) n few, blank, used, of-fit 1 rs fit)
 
-pub log-read-packed : (s : List ℕ) → Bytes s → refuses (readLog s .refusal) ≡ false → logBytes (limitOf s) (readLog s .log) ≡ s
-unfolding readLog fieldChecks logOf
-log-read-packed s b h =
-    let k = first-off (when (formless s) 1) (fieldChecks s) h in
+  packed : packedLog l s ≡ logFor (limitOf s) rs
+  unfolding packedLog
+  packed = rw packs (log-bytes (limitOf s) l rs (rowLimit - length rs) count rows)
+
+  read : readLog (packedLog l s) ≡ record { refusal = nothing; log = l }
+  unfolding logFor
+  read =
+      let has = log-has s form rs few fit in
+      let limit = log-limit s form rs in
+      rw packed (read-is (logFor (limitOf s) rs) l (rw limit form) some (rw limit few) (log-blank (limitOf s) rs few) (rw has fit) count (rw has rows))
+
+right-form : (s : List ℕ) → length s ≡ logSize rowLimit → limitOf s ≡ rowLimit
+unfolding limitOf
+right-form s h = rw h
+
+pub log-there : (l : Log) (s : List ℕ) → LogInRange l → length s ≡ logSize rowLimit → (packLogCheck l s ≡ nothing) × (readLog (packedLog l s) ≡ record { refusal = nothing; log = l })
+log-there l s r h =
+    let c = l .count in
+    let rs = take c (l .rows) in
+    let below = drop c (l .rows) in
+    let limit : limitOf s ≡ rowLimit = right-form s h in
+    let n : length rs ≡ c = length-take-le c (l .rows) (omega (arith, r .count .1, r .places)) in
+    let fit : Fit rs = rows-right rs (λ k i. rw (getD-take c (l .rows) k noRow (omega arith)) (r .used k (omega arith))) in
+    let blank : below ≡ replicate (length below) noRow = no-rows below (λ k. getD-drop c (l .rows) k noRow ∙ r .unused (c + k) (omega arith)) in
+    let left : length below ≡ rowLimit - length rs = rw (length-drop, r .places, n) in
+    let rows : l .rows ≡ rs ++ replicate (rowLimit - length rs) noRow = sym (take-append-drop c (l .rows)) ∙ ap (λ (t : List Row). rs ++ t) (rw left at blank) in
+    let form : 0 < limitOf s = omega arith in
+    let some : 1 ≤ length rs = omega (arith, r .count .0) in
+    let few : length rs ≤ limitOf s = omega (arith, r .count .1) in
+    (packs l s rs form some few fit (sym n) rows, read l s rs form some few fit (sym n) rows)
+
+-- what is read of bytes that are not refused: some rows, no more than the form has, each in range, with zero rows and zero bytes behind them
+record Known (s : List ℕ) : Type 0 where
+  form : 0 < limitOf s
+  some : 1 ≤ length (rowsOf s)
+  few : length (rowsOf s) ≤ limitOf s
+  fit : Fit (rowsOf s)
+  count : countOf s ≡ length (rowsOf s)
+  blank : allZero (drop (1 + countOf s * rowSize) s) ≡ true
+  rows : logOf s .rows ≡ rowsOf s ++ replicate (rowLimit - length (rowsOf s)) noRow
+
+known : (s : List ℕ) → refuses (readLog s .refusal) ≡ false → Known s
+unfolding readLog logOf
+known s g =
+    let k = first-off (when (formless s) 1) _ g in
     let u = first-off (when (unusedWrong s) 2) (firstWrong 1 (rowsOf s)) (k .1) in
     let two = counted s (when-off 1 (unusedWrong s) (u .0)) in
-    rw h
-    (log-bytes (limitOf s) (logOf s) (rowsOf s) (rowLimit - countOf s) (sym (count-length s)) (padded s (omega (arith, limit-most s)) (two .2))
-    ∙ log-whole (limitOf s) s (limit-long s (formed s (k .0))) b (two .1) (two .2))
+    let n : length (rowsOf s) ≡ countOf s = count-length s in
+    record {
+      form = omega (arith, two .0, two .1);
+      some = omega (arith, two .0);
+      few = omega (arith, two .1);
+      fit = fit-of 1 (rowsOf s) (u .1);
+      count = sym n;
+      blank = two .2;
+      rows = rw n (padded s (omega (arith, two .1, limit-most s)) (two .2));
+    }
+
+pub log-back : (s t : List ℕ) → Bytes s → length t ≡ length s → refuses (readLog s .refusal) ≡ false
+    → (packLogCheck (readLog s .log) t ≡ nothing) × (packedLog (readLog s .log) t ≡ s)
+unfolding readLog logOf
+log-back s t b h g =
+    let k = known s g in
+    let rs = rowsOf s in
+    let limit : limitOf t ≡ limitOf s = limit-same t s h in
+    let form : 0 < limitOf t = rw limit (k .form) in
+    let few : length rs ≤ limitOf t = rw limit (k .few) in
+    rw g (
+      packs (logOf s) t rs form (k .some) few (k .fit) (k .count) (k .rows),
+      packed (logOf s) t rs form (k .some) few (k .fit) (k .count) (k .rows)
+          ∙ rw limit (log-whole (limitOf s) s (limit-long s (k .form)) b (omega (arith, k .few, k .count)) (k .blank)),
+    )
+
+-- and fields that are read are in range
+none-behind : (rs : List Row) (n k : ℕ) → length rs ≤ k → getD (rs ++ replicate n noRow) k noRow ≡ noRow
+none-behind [] zero k h = refl
+none-behind [] (suc n) zero h = refl
+none-behind [] (suc n) (suc k) h = none-behind [] n k (omega arith)
+none-behind (r ∷ rs) n zero h = absurd (omega arith)
+none-behind (r ∷ rs) n (suc k) h = none-behind rs n k (omega arith)
+
+pub log-in-range : (s : List ℕ) → refuses (readLog s .refusal) ≡ false → LogInRange (readLog s .log)
+unfolding readLog logOf
+log-in-range s g =
+    let k = known s g in
+    let rs = rowsOf s in
+    let zeros = replicate (rowLimit - length rs) noRow in
+    rw g
+    (record {
+      places = rw (k .rows) (simp (length-append, length-replicate) (omega (arith, k .few, limit-most s)));
+      count = (omega (arith, k .some, k .count), omega (arith, k .few, k .count, limit-most s));
+      used = λ i h. let l : i < length rs = omega (arith, k .count) in rw (k .rows, List·getD-append rs zeros noRow i l) (row-in-range (getD rs i noRow) (fit-at rs i l (k .fit)));
+      unused = λ i h. rw (k .rows) (none-behind rs (rowLimit - length rs) i (omega (arith, k .count)));
+    })

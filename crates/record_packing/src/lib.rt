@@ -3,8 +3,8 @@ use base_copies::copy_in;
 use base_replies::first;
 use base_replies::refuse;
 use record_lengths::row_limit;
-use record_logs::count_wrong;
-use record_logs::row_refusal;
+use record_log_checks::count_wrong;
+use record_log_checks::row_refusal;
 use record_row_ranges::row_field;
 use record_row_ranges::row_zero;
 use record_rows::row_bytes;
@@ -18,8 +18,8 @@ ghost use lib.ListN.{length, take, drop};
 ghost use Rattle.rules.specs.Base as Base;
 ghost use Rattle.rules.specs.Base.{when};
 ghost use Rattle.rules.specs.Limits.{rowLimit, logSize};
-ghost use Rattle.rules.specs.Checks.{firstWrong};
 ghost use Rattle.rules.specs.Packed.{logBytes};
+ghost use Rattle.rules.specs.Checks.{firstWrong};
 ghost use Rattle.rules.specs.Reading.{rowsZero, unusedFields, packLogCheck, packedLog};
 
 // Whether the row places from `from` on are all zero.

@@ -6,10 +6,11 @@ use rules::Pile;
 use rules::Refusal;
 ghost use mathlib.Core.Path.{_≡_};
 ghost use Rattle.rules.specs.Base.{when};
-ghost use Rattle.rules.specs.Checks.{aRight, bRight, wrongPart, sectionCheck, methodWrong, pileChecks};
+ghost use Rattle.rules.specs.Checks.{aInRange, bInRange, wrongPileField, sectionCheck, methodWrong};
+ghost use Rattle.rules.proofs.Groups.{pileChecks};
 
-fn a_right(p: Pile) -> bool
-    ensures { λ r. ⌜ r ≡ aRight p ⌝ }
+fn a_in_range(p: Pile) -> bool
+    ensures { λ r. ⌜ r ≡ aInRange p ⌝ }
 {
     if p.section == 1 {
         in_range(150, 2000, p.a)
@@ -18,8 +19,8 @@ fn a_right(p: Pile) -> bool
     }
 }
 
-fn b_right(p: Pile) -> bool
-    ensures { λ r. ⌜ r ≡ bRight p ⌝ }
+fn b_in_range(p: Pile) -> bool
+    ensures { λ r. ⌜ r ≡ bInRange p ⌝ }
 {
     if p.section == 1 {
         p.b == 0
@@ -29,16 +30,16 @@ fn b_right(p: Pile) -> bool
 }
 
 // The first of section kind, a, b and the zero bits that is wrong, 0 where none is.
-fn wrong_part(p: Pile) -> u32
-    ensures { λ f. ⌜ f ≡ wrongPart p ⌝ }
+fn wrong_pile_field(p: Pile) -> u32
+    ensures { λ f. ⌜ f ≡ wrongPileField p ⌝ }
 {
     if !in_range(1, 2, p.section as u16) {
         return 1;
     }
-    if !a_right(p) {
+    if !a_in_range(p) {
         return 2;
     }
-    if !b_right(p) {
+    if !b_in_range(p) {
         return 3;
     }
     if p.zero != 0 {
@@ -51,7 +52,7 @@ fn wrong_part(p: Pile) -> u32
 fn section_refusal(p: Pile) -> Refusal
     ensures { λ r. ⌜ r ≡ sectionCheck p ⌝ }
 {
-    let f = wrong_part(p);
+    let f = wrong_pile_field(p);
     if 0 < f {
         return Refusal {
             number: 5,

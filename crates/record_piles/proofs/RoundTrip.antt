@@ -1,63 +1,67 @@
--- A pile record that was packed is read, and one that was read packs to the same bytes.
+-- A pile record whose fields are in range packs, and reads as these fields; and what is read of one packs, into any buffer as long, to the same bytes.
 use mathlib.Core.Path.{_≡_, refl, ap, sym, _∙_}
-use mathlib.Core.Bool.{Bool, true, false}
-use mathlib.Core.List.{List, [], append-nil}
-use Prim.Native.Nat.{ℕ, _<_}
+use mathlib.Core.Bool.{false}
+use mathlib.Core.Logic.{⊎-elim}
+use mathlib.Core.List.{List, [], _∷_, append-nil}
+use Prim.Native.Nat.{ℕ, _^_, _<_, _≤_}
 use native.Mathlib.Omega.{arith}
-use borrow.Author.Tests.{eqb-true}
-use lib.Dec.{eqb}
+use lib.ListN.{length}
 use Rattle.rules.specs.declared.Pile.{Pile}
-use Rattle.rules.specs.Base.{pick, within, nothing, refuses, first, when}
-use Rattle.rules.specs.Widths.{Fits}
+use Rattle.rules.specs.Base.{nothing, refuses, first, when}
+use Rattle.rules.specs.Widths.{Fits, Bytes}
 use Rattle.rules.specs.Records.{pileFields, pileFrom, pileSize, pileWidths}
 use Rattle.rules.specs.Packed.{pileOf, pileBytes}
-use Rattle.rules.specs.Checks.{longOther, aRight, bRight, wrongPart, sectionCheck, methodWrong, pileChecks}
-use Rattle.rules.specs.Reading.{readPile, packPileCheck}
-use Rattle.rules.proofs.PlacesLaws.{Bytes}
-use Rattle.rules.proofs.RefusalLaws.{first-off, first-right, when-off, when-false, neg-false, within-high, none-picked, not-picked, right-long}
+use Rattle.rules.specs.Ranges.{PileInRange}
+use Rattle.rules.specs.Checks.{longOther, sectionCheck, methodWrong}
+use Rattle.rules.specs.Reading.{readPile, packPileCheck, packedPile}
+use Rattle.rules.proofs.Basics.{split}
+use Rattle.rules.proofs.InRangeLaws.{pile-right, pile-in-range}
+use Rattle.rules.proofs.OrderLaws.{last-off}
+use Rattle.rules.proofs.RefusalLaws.{first-off, when-off, when-false, right-long}
 use Rattle.rules.proofs.WidthLaws.{there, back}
 
--- what a choice by a test lets pass, where each of the two does
-whichever : {P : Type 0} (t : Bool) (a b : Bool) → (a ≡ true → P) → (b ≡ true → P) → pick t a b ≡ true → P
-whichever true a b f g h = f h
-whichever false a b f g h = g h
+-- fields in range fit their bits
+sides : (p : Pile) → PileInRange p → (p .a < 2 ^ 12) × (p .b < 2 ^ 12)
+sides p h =
+    ⊎-elim (λ (k : 1 < p .section). omega (arith, h .rectangle (omega (arith, h .section .1)))) (λ (k : p .section ≤ 1). omega (arith, h .circle (omega (arith, h .section .0))))
+    (split 1 (p .section))
 
--- a pile record that checks 5 and 6 let pass fits its bits
-passes : (p : Pile) → refuses (pileChecks p) ≡ false → p .head < 65536 → p .tip < 65536 → Fits pileWidths (pileFields p) × (pileChecks p ≡ nothing)
-unfolding pileChecks sectionCheck wrongPart
-passes p h i j =
-    let k = first-off (sectionCheck p) (when (methodWrong p) 6) h in
-    let right = not-picked (wrongPart p) (record { number = 5; row = 0; field = wrongPart p }) nothing refl (k .0) .0 in
-    let m = when-off 5 (methodWrong p) (k .1) in
-    let method : within 1 3 (p .method) ≡ true = neg-false _ m in
-    let section = none-picked (within 1 2 (p .section)) _ 0 right in
-    let a = none-picked (aRight p) _ 1 (section .1) in
-    let b = none-picked (bRight p) _ 2 (a .1) in
-    let zero = none-picked (eqb (p .zero) 0) _ 3 (b .1) .0 in
-    let circle = eqb (p .section) 1 in (
-      (
-        omega (arith, within-high),
-        (
-          whichever circle _ _ (λ e. omega (arith, within-high)) (λ e. omega (arith, within-high)) (a .0),
-          (
-            whichever circle _ _ (λ e. omega (arith, eqb-true)) (λ e. omega (arith, within-high)) (b .0),
-            (omega (arith, within-high), (i, (j, (omega (arith, eqb-true), tt)))),
-          ),
-        ),
-      ),
-      first-right (sectionCheck p) (when (methodWrong p) 6) (k .0) ∙ when-false 6 (methodWrong p) m,
-    )
+fits : (p : Pile) → PileInRange p → Fits pileWidths (pileFields p)
+fits p h =
+    let side = sides p h in
+    (omega (arith, h .section .1), (side .0, (side .1, (omega (arith, h .method .1), (h .head, (h .tip, (omega (arith, h .zero), tt)))))))
 
-pub pile-packed-read : (p : Pile) (s : List ℕ) → p .head < 65536 → p .tip < 65536 → refuses (packPileCheck p s) ≡ false
-    → readPile (pileBytes p) ≡ record { refusal = nothing; pile = p }
-unfolding packPileCheck readPile pileOf pileBytes first when
-pile-packed-read p s i j h =
-    let k = passes p (first-off (when (longOther pileSize s) 1) (pileChecks p) h .1) i j in
-    let e : pileOf (pileBytes p) ≡ p = ap pileOf (sym (append-nil (pileBytes p))) ∙ ap pileFrom (there pileSize pileWidths (pileFields p) [] refl (k .0)) in
-    rw (e, k .1)
+-- and are refused neither in bytes that hold them nor when they are packed
+module _ (p : Pile) (r : PileInRange p) (s : List ℕ) (h : length s ≡ pileSize) where
+  packs : packPileCheck p s ≡ nothing
+  unfolding packPileCheck first when
+  packs = let k = pile-right p r in rw (h, k .0, k .1)
 
-pub pile-read-packed : (s : List ℕ) → Bytes s → refuses (readPile s .refusal) ≡ false → pileBytes (readPile s .pile) ≡ s
-unfolding readPile pileOf pileBytes
-pile-read-packed s b h =
-    let k = first-off (when (longOther pileSize s) 1) (pileChecks (pileOf s)) h in
-    rw h (back pileSize pileWidths s refl (right-long pileSize s (when-off 0 (longOther pileSize s) (k .0))) b)
+  reads : pileOf s ≡ p → readPile s ≡ record { refusal = nothing; pile = p }
+  unfolding readPile first when
+  reads e = let k = pile-right p r in rw (e, h, k .0, k .1)
+
+pub pile-there : (p : Pile) (s : List ℕ) → PileInRange p → length s ≡ pileSize
+    → (packPileCheck p s ≡ nothing) × (readPile (packedPile p s) ≡ record { refusal = nothing; pile = p })
+unfolding packedPile pileOf pileBytes
+pile-there p s r h =
+    let same : pileOf (pileBytes p) ≡ p = ap pileOf (sym (append-nil (pileBytes p))) ∙ ap pileFrom (there pileSize pileWidths (pileFields p) [] refl (fits p r)) in
+    (packs p r s h, rw (packs p r s h) (reads p r (pileBytes p) refl same))
+
+pub pile-back : (s t : List ℕ) → Bytes s → length t ≡ length s → refuses (readPile s .refusal) ≡ false
+    → (packPileCheck (readPile s .pile) t ≡ nothing) × (packedPile (readPile s .pile) t ≡ s)
+unfolding readPile packPileCheck packedPile pileOf pileBytes
+pile-back s t b h g =
+    let p = pileOf s in
+    let other = when (longOther pileSize s) 1 in
+    let passed : packPileCheck p t ≡ nothing = rw h (last-off other (sectionCheck p ∷ []) (when (methodWrong p) 6) (λ k. when-false 6 _ (when-off 5 _ k)) g) in
+    rw g (passed, rw passed (back pileSize pileWidths s refl (right-long pileSize s (when-off 0 (longOther pileSize s) (first-off other _ g .0))) b))
+
+-- and fields that are read are in range
+pub pile-read-in-range : (s : List ℕ) → refuses (readPile s .refusal) ≡ false → PileInRange (readPile s .pile)
+unfolding readPile pileOf
+pile-read-in-range s g =
+    let p = pileOf s in
+    let k = first-off (when (longOther pileSize s) 1) _ g in
+    let u = first-off (sectionCheck p) (when (methodWrong p) 6) (k .1) in
+    rw g (pile-in-range p (u .0) (when-off 5 (methodWrong p) (u .1)) (omega arith) (omega arith))

@@ -1,15 +1,13 @@
 // The ranges of a row's fields: check 3, and what an unused place holds.
 use base_replies::in_range;
-use rules::DEPTH_LIMIT;
 use rules::Row;
+use rules::THICKNESS_LIMIT;
 ghost use mathlib.Core.Path.{_≡_};
-ghost use Rattle.rules.specs.Checks.{indexRight, wrongField};
+ghost use Rattle.rules.specs.Checks.{indexInRange, wrongField};
 ghost use Rattle.rules.specs.Reading.{rowZero};
 
-const THICKNESS_LIMIT: u16 = DEPTH_LIMIT as u16;
-
-fn index_right(kind: u8, index: u8) -> bool
-    ensures { λ r. ⌜ r ≡ indexRight kind index ⌝ }
+fn index_in_range(kind: u8, index: u8) -> bool
+    ensures { λ r. ⌜ r ≡ indexInRange kind index ⌝ }
 {
     if kind <= 3 {
         index == 100
@@ -47,7 +45,7 @@ pub fn row_field(r: Row) -> u32
     if !in_range(1, 6, r.kind as u16) {
         return 2;
     }
-    if !index_right(r.kind, r.index) {
+    if !index_in_range(r.kind, r.index) {
         return 3;
     }
     if 100 < r.saturation {

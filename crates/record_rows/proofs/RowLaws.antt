@@ -5,7 +5,7 @@ use Prim.Native.Nat.{ℕ, _-_, _≤_}
 use native.Mathlib.Nat.{add-zero}
 use lib.ListN.{length, take, drop, List·getD-eq-default}
 use Rattle.rules.specs.declared.Row.{Row}
-use Rattle.rules.specs.Widths.{cut}
+use Rattle.rules.specs.Widths.{fieldsOf}
 use Rattle.rules.specs.Records.{rowFrom, rowSize, rowWidths}
 use Rattle.rules.specs.Packed.{numberAt, rowAt, noRow}
 use Rattle.rules.proofs.WidthLaws.{number-part}
@@ -13,7 +13,7 @@ use Rattle.record_bits.proofs.BitLaws.{number-blank, part-whole}
 
 -- the row in the number of its bytes
 abbrev rowIn : ℕ → Row
-rowIn w = rowFrom (cut rowWidths w)
+rowIn w = rowFrom (fieldsOf rowWidths w)
 
 pub row-past : (s : List ℕ) (at : ℕ) → length s ≤ at → rowAt s at ≡ noRow
 row-past s at h = ap rowIn (number-blank s (length s) at rowSize (λ (k : ℕ) g. List·getD-eq-default s 0 g) h)

@@ -16,7 +16,7 @@ use rules::Row;
 ghost use mathlib.Core.Path.{_≡_};
 ghost use Prim.Native.Nat.{_+_, _≤_};
 ghost use lib.ListN.{length};
-ghost use Rattle.rules.specs.Widths.{cut};
+ghost use Rattle.rules.specs.Widths.{fieldsOf};
 ghost use Rattle.rules.specs.Records.{rowFrom, rowSize, rowWidths};
 ghost use Rattle.rules.specs.Packed.{rowAt, noRow, rowBytes};
 
@@ -25,7 +25,7 @@ const ROW_START: usize = WORD_BITS - ROW_SIZE * 8;
 
 // The row in the number of its five bytes.
 fn row_of(word: u64) -> Row
-    ensures { λ r. ⌜ r ≡ rowFrom (cut rowWidths word) ⌝ }
+    ensures { λ r. ⌜ r ≡ rowFrom (fieldsOf rowWidths word) ⌝ }
 {
     let start = Cursor {
         word: word,

@@ -1,2 +1,3 @@
--- Laws of the table.
+-- Laws of a table while it is filled, and its round trips.
 pub mod TableLaws
+pub mod RoundTrip

@@ -34,7 +34,7 @@ pub(crate) fn read_pile(s: &[u8]) {
     pile(got.pile);
 }
 
-// Place i, counted from 0.
+// Spot i, counted from 0.
 pub(crate) fn read_slice(s: &[u8], i: u16) {
     io::write_all(STDOUT_FILENO, b"slice");
     let got = record_slices::read_slice(s, i as u32);

@@ -6,7 +6,7 @@ use native.Mathlib.Nat.{div-div-eq-div-mul, div-one}
 use native.Mathlib.Omega.{arith}
 use lib.ListN.{getD}
 use lib.Seq.{getD-drop}
-use Rattle.rules.specs.Widths.{cut, bytes}
+use Rattle.rules.specs.Widths.{fieldsOf, bytes}
 use Rattle.rules.specs.Records.{rowSize}
 use Rattle.rules.specs.Packed.{numberAt}
 use Rattle.record_bits.specs.Word.{wordSize, windowAt}
@@ -21,5 +21,5 @@ eight-are s = simp getD-drop (omega arith)
 
 pub bytes-are : (w : ℕ)
     → w / 256 / 256 / 256 / 256 / 256 / 256 / 256 % 256 ∷ w / 256 / 256 / 256 / 256 / 256 / 256 % 256 ∷ w / 256 / 256 / 256 / 256 / 256 % 256 ∷ w / 256 / 256 / 256 / 256 % 256
-    ∷ w / 256 / 256 / 256 % 256 ∷ w / 256 / 256 % 256 ∷ w / 256 % 256 ∷ w % 256 ∷ [] ≡ cut (bytes wordSize) w
+    ∷ w / 256 / 256 / 256 % 256 ∷ w / 256 / 256 % 256 ∷ w / 256 % 256 ∷ w % 256 ∷ [] ≡ fieldsOf (bytes wordSize) w
 bytes-are w = simp (div-div-eq-div-mul, div-one)

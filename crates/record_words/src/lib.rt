@@ -6,7 +6,7 @@ use rules::ROW_SIZE;
 ghost use mathlib.Core.Path.{_≡_};
 ghost use Prim.Native.Nat.{_+_, _*_, _^_, _≤_, _<_};
 ghost use lib.ListN.{length};
-ghost use Rattle.rules.specs.Widths.{cut, bytes};
+ghost use Rattle.rules.specs.Widths.{fieldsOf, bytes};
 ghost use Rattle.rules.specs.Records.{rowSize};
 ghost use Rattle.rules.specs.Packed.{numberAt};
 ghost use Rattle.record_bits.specs.Word.{wordSize, windowAt, Padded};
@@ -77,7 +77,7 @@ pub fn word_of(s: &[u8]) -> u64
 }
 
 pub fn bytes_of(w: u64) -> [u8; WORD_SIZE]
-    ensures { λ r. ⌜ r ≡ cut (bytes wordSize) w ⌝ }
+    ensures { λ r. ⌜ r ≡ fieldsOf (bytes wordSize) w ⌝ }
 {
     let g = w / 256;
     let f = g / 256;

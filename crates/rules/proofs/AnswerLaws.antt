@@ -14,13 +14,14 @@ use Rattle.rules.specs.declared.Slice.{Slice}
 use Rattle.rules.specs.declared.Answer.{Answer}
 use Rattle.rules.specs.declared.Refusal.{Refusal}
 use Rattle.rules.specs.Base.{pick, either, refuses, first, when}
-use Rattle.rules.specs.Checks.{pileChecks, depthOf}
-use Rattle.rules.specs.Ground.{soilAt, Agree}
+use Rattle.rules.specs.Ground.{depthOf, soilAt, Agree}
 use Rattle.rules.specs.Pieces.{pieces, runTop}
-use Rattle.rules.specs.Numbers.{slicesOf, resistance, lineOf}
-use Rattle.rules.specs.Answers.{belowTip, depthsWrong, logShort, early, checksFrom, refused, numbers, answerFrom, slicesFrom, answer, slices}
-use Rattle.rules.specs.Calculation.{answerOf, slicesOfRows}
-use Rattle.rules.specs.ByRows.{Positive, cutsOf, topAt, answerRows, slicesRows}
+use Rattle.rules.specs.Numbers.{sliceEach, resistance, lineOf, belowTip, shaftSlices}
+use Rattle.rules.specs.Checks.{depthsWrong, logShort, groundChecks}
+use Rattle.rules.specs.Answers.{refused, numbers, answer, heldSlices}
+use Rattle.rules.specs.Calculation.{answerOf, heldSlicesOf}
+use Rattle.rules.proofs.Groups.{pileChecks, early, checksFrom, answerFrom, slicesFrom, answer-grouped, slices-grouped}
+use Rattle.rules.proofs.ByRows.{Positive, cutsOf, topAt, answerRows, slicesRows}
 use Rattle.rules.proofs.Basics.{sure}
 use Rattle.rules.proofs.RefusalLaws.{first-off, when-off, either-left, either-right}
 use Rattle.rules.proofs.GroundLaws.{one-ground}
@@ -57,14 +58,15 @@ unfolding answerFrom slicesFrom checksFrom first
 early-alone depth at at′ top top′ cut cut′ p h = (simp h, simp h)
 
 module _ (rs : List Row) (p : Pile) (w : Positive rs) where
-  pub cuts-are : Clear (depthOf rs) p → cutsOf rs p ≡ slicesOf p (pieces (soilAt rs) (p .head) (p .tip))
+  pub cuts-are : Clear (depthOf rs) p → cutsOf rs p ≡ sliceEach p (pieces (soilAt rs) (p .head) (p .tip))
   unfolding pieces
-  cuts-are c = ap (slicesOf p) (by-rows rs (p .tip - p .head) (p .head) (p .tip - p .head) w (omega arith) (omega (arith, c .order, c .deep)))
+  cuts-are c = ap (sliceEach p) (by-rows rs (p .tip - p .head) (p .head) (p .tip - p .head) w (omega arith) (omega (arith, c .order, c .deep)))
 
-  both-rows : (answerRows rs p ≡ answerOf rs p) × (slicesRows rs p ≡ slicesOfRows rs p)
-  unfolding answerRows answerOf answer slicesRows slicesOfRows slices
+  both-rows : (answerRows rs p ≡ answerOf rs p) × (slicesRows rs p ≡ heldSlicesOf rs p)
+  unfolding answerRows answerOf slicesRows heldSlicesOf
   both-rows =
-      ⊎-elim
+      rw (answer-grouped (soilAt rs) (depthOf rs) p, slices-grouped (soilAt rs) (depthOf rs) p)
+      (⊎-elim
       (λ (h : refuses (early (depthOf rs) p) ≡ true). early-alone (depthOf rs) _ _ _ _ _ _ p h)
       (λ (h : refuses (early (depthOf rs) p) ≡ false).
       let c : Clear (depthOf rs) p = clear (depthOf rs) p h in
@@ -72,31 +74,33 @@ module _ (rs : List Row) (p : Pile) (w : Positive rs) where
         ap₂ (λ (t : ℕ) (l : List Slice). answerFrom (depthOf rs) (soilAt rs (belowTip p)) t l p) t (cuts-are c),
         ap₂ (λ (t : ℕ) (l : List Slice). slicesFrom (depthOf rs) (soilAt rs (belowTip p)) t l p) t (cuts-are c),
       ))
-      (sure (refuses (early (depthOf rs) p)))
+      (sure (refuses (early (depthOf rs) p))))
 
   -- typing does not matter: the answer along the rows is the answer of the ground
   pub answer-by-rows : answerRows rs p ≡ answerOf rs p
   answer-by-rows = both-rows .0
 
-  pub slices-by-rows : slicesRows rs p ≡ slicesOfRows rs p
+  pub slices-by-rows : slicesRows rs p ≡ heldSlicesOf rs p
   slices-by-rows = both-rows .1
 
 -- Two logs that are equally deep and agree at every millimetre have equal answers and equal slices for the same pile record.
-pub only-millimetres : (rs ts : List Row) (p : Pile) → Agree rs ts → (answerOf rs p ≡ answerOf ts p) × (slicesOfRows rs p ≡ slicesOfRows ts p)
-unfolding answerOf slicesOfRows
+pub only-millimetres : (rs ts : List Row) (p : Pile) → Agree rs ts → (answerOf rs p ≡ answerOf ts p) × (heldSlicesOf rs p ≡ heldSlicesOf ts p)
+unfolding answerOf heldSlicesOf
 only-millimetres rs ts p h = (
   ap₂ (λ (g : ℕ → Soil) (d : ℕ). answer g d p) (one-ground rs ts h) (h .0),
-  ap₂ (λ (g : ℕ → Soil) (d : ℕ). slices g d p) (one-ground rs ts h) (h .0),
+  ap₂ (λ (g : ℕ → Soil) (d : ℕ). heldSlices g d p) (one-ground rs ts h) (h .0),
 )
 
 -- under 5 to 12 or 15 every number is zero, and no slice is held
-module _ (depth : ℕ) (at : Soil) (top : ℕ) (cut : List Slice) (p : Pile) where
+module _ (g : ℕ → Soil) (depth : ℕ) (p : Pile) where
   refused-by : (t : Bool) (r : Refusal) (full : Answer) → refuses (full .refusal) ≡ false → t ≡ refuses r → refuses (pick t (refused r) full .refusal) ≡ true
-      → (pick t (refused r) full ≡ refused (pick t (refused r) full .refusal)) × (pick t [] cut ≡ [])
+      → (pick t (refused r) full ≡ refused (pick t (refused r) full .refusal)) × (pick t [] (shaftSlices g p) ≡ [])
   refused-by true r full f e h = (refl, refl)
   refused-by false r full f e h = absurd (true≢false (sym h ∙ f))
 
-  pub refused-from : refuses (answerFrom depth at top cut p .refusal) ≡ true
-      → (answerFrom depth at top cut p ≡ refused (answerFrom depth at top cut p .refusal)) × (slicesFrom depth at top cut p ≡ [])
-  unfolding answerFrom slicesFrom numbers
-  refused-from h = let r : Refusal = checksFrom depth at top cut p in refused-by (refuses r) r (numbers at p (resistance p at) (lineOf cut)) refl refl h
+  pub refused-ground : refuses (answer g depth p .refusal) ≡ true → (answer g depth p ≡ refused (answer g depth p .refusal)) × (heldSlices g depth p ≡ [])
+  unfolding answer heldSlices numbers
+  refused-ground h =
+      let r : Refusal = groundChecks g depth p in
+      let soil = g (belowTip p) in
+      refused-by (refuses r) r (numbers soil p (resistance p soil) (lineOf (shaftSlices g p))) refl refl h

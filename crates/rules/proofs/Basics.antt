@@ -8,10 +8,10 @@ use lib.ListN.{length}
 use lib.Dec.{ltb, eqb}
 use borrow.Author.Tests.{ltb-true, ltb-false, eqb-true, eq-eqb}
 use Rattle.rules.specs.Base.{both}
-use Rattle.rules.specs.declared.Soil.{Soil}
-use Rattle.rules.specs.Ground.{same}
 use Rattle.rules.specs.Records.{rowSize}
 use Rattle.rules.specs.Packed.{rowsFrom}
+use Rattle.rules.specs.Ground.{same}
+use Rattle.rules.specs.declared.Soil.{Soil}
 
 pub sure : (t : Bool) → (t ≡ true) ⊎ (t ≡ false)
 sure true = inl refl

@@ -10,12 +10,13 @@ use lib.ListN.{length}
 use borrow.Author.Tests.{ltb-true, ltb-false, leb-true, leb-false, eqb-true, eqb-false, ne-eqb}
 use Rattle.rules.specs.declared.Refusal.{Refusal}
 use Rattle.rules.specs.declared.Row.{Row}
-use Rattle.rules.specs.Base.{both, neg, refuses, nothing, when}
+use Rattle.rules.specs.Base.{both, refuses, nothing, when}
 use Rattle.rules.specs.Limits.{limitOf, depthLimit}
 use Rattle.rules.specs.Packed.{rowAt, rowsOf}
-use Rattle.rules.specs.Checks.{wrongField, depthOf, Passed}
-use Rattle.rules.specs.Ground.{Agree}
-use Rattle.rules.specs.Edits.{Edit, asked, brings, grows, names, rowNamed, stands, splice, gone, come, full, newRowCheck, changeChecks, editedRows, editedLog}
+use Rattle.rules.specs.Ground.{depthOf, Agree}
+use Rattle.rules.specs.Edits.{Edit, asked, brings, grows, names, rowNamed, stands, splice, gone, come, editedRows, editedLog}
+use Rattle.rules.specs.Checks.{wrongField, Passed, full, newRowCheck, namesNothing, tooDeep}
+use Rattle.rules.proofs.Groups.{changeChecks}
 use Rattle.rules.proofs.Basics.{sure, both-left, both-right}
 use Rattle.rules.proofs.RefusalLaws.{first-off, when-off, within-low, within-high, neg-false, not-picked}
 use Rattle.rules.proofs.RangeLaws.{Fit, fit-at, fit-part}
@@ -117,9 +118,9 @@ pub record Free (e : Edit) (log : List ℕ) : Type 0 where
 pub free : (e : Edit) (log : List ℕ) → refuses (changeChecks e log) ≡ false → Free e log
 unfolding changeChecks
 free e log h =
-    let n = neg (stands e (rowsOf log)) in
+    let n = namesNothing e log in
     let m = full (e .kind) (limitOf log) (length (rowsOf log)) in
-    let d = ltb depthLimit (depthOf (editedRows e (rowsOf log))) in
+    let d = tooDeep (editedRows e (rowsOf log)) in
     let a = first-off (when n 13) _ h in
     let b = first-off (when m 14) _ (a .1) in
     let c = first-off (newRowCheck e) (when d 4) (b .1) in

@@ -7,13 +7,12 @@ use native.Mathlib.Omega.{arith}
 use lib.Dec.{eqb}
 use borrow.Author.Tests.{eqb-false}
 use Rattle.rules.specs.Base.{pick, either, neg}
-use Rattle.rules.specs.declared.Soil.{Soil}
-use Rattle.rules.specs.Limits.{sliceLimit}
+use Rattle.rules.specs.Limits.{sliceThickness}
 use Rattle.rules.specs.Ground.{same}
 use Rattle.rules.specs.Pieces.{Piece, piece, ends, walk, piecesFrom, pieces}
+use Rattle.rules.specs.Numbers.{sliceOf, sliceEach, thicknessSum}
+use Rattle.rules.specs.declared.Soil.{Soil}
 use Rattle.rules.specs.declared.Pile.{Pile}
-use Rattle.rules.specs.declared.Slice.{Slice}
-use Rattle.rules.specs.Numbers.{sliceOf, slicesOf}
 
 abbrev pub thickSum : List Piece → ℕ
 thickSum [] = 0
@@ -45,26 +44,26 @@ adds-up g head tip = from-sum g head (tip - head)
 -- each piece has 1 to 2,000 mm and ends at e or above
 abbrev pub Fit : ℕ → List Piece → Type 0
 Fit e [] = Unit {0}
-Fit e (c ∷ cs) = (0 < c .thickness) × (c .thickness ≤ sliceLimit) × (c .top + c .thickness ≤ e) × Fit e cs
+Fit e (c ∷ cs) = (0 < c .thickness) × (c .thickness ≤ sliceThickness) × (c .top + c .thickness ≤ e) × Fit e cs
 
 pick-fit : (t : Bool) (xs ys : List Piece) (e : ℕ) → Fit e xs → (t ≡ false → Fit e ys) → Fit e (pick t xs ys)
 pick-fit true xs ys e p q = p
 pick-fit false xs ys e p q = q refl
 
-not-full : (t : ℕ) (b : Bool) → t ≤ sliceLimit → either (eqb t sliceLimit) b ≡ false → t < sliceLimit
-not-full t b h e = let n : t ≡ sliceLimit → ⊥ = eqb-false t sliceLimit (left (eqb t sliceLimit) b e) in omega (arith, n)
+not-full : (t : ℕ) (b : Bool) → t ≤ sliceThickness → either (eqb t sliceThickness) b ≡ false → t < sliceThickness
+not-full t b h e = let n : t ≡ sliceThickness → ⊥ = eqb-false t sliceThickness (left (eqb t sliceThickness) b e) in omega (arith, n)
   where
     left : (a b : Bool) → either a b ≡ false → a ≡ false
     left true b e = e
     left false b e = refl
 
-walk-fit : (g : ℕ → Soil) (n a t : ℕ) (s : Soil) (e : ℕ) → 0 < t → t ≤ sliceLimit → a + t + n ≡ e → Fit e (walk g n a t s)
+walk-fit : (g : ℕ → Soil) (n a t : ℕ) (s : Soil) (e : ℕ) → 0 < t → t ≤ sliceThickness → a + t + n ≡ e → Fit e (walk g n a t s)
 unfolding walk
 walk-fit g zero a t s e p h q = (p, h, omega arith, tt)
 walk-fit g (suc n) a t s e p h q =
     pick-fit (ends t s (g (a + t))) _ _ e
     (p, h, omega arith, walk-fit g n (a + t) 1 (g (a + t)) e (omega arith) (omega arith) (omega arith))
-    (λ x. let l : t < sliceLimit = not-full t (neg (same s (g (a + t)))) h x in walk-fit g n a (t + 1) s e (omega arith) (omega arith) (omega arith))
+    (λ x. let l : t < sliceThickness = not-full t (neg (same s (g (a + t)))) h x in walk-fit g n a (t + 1) s e (omega arith) (omega arith) (omega arith))
 
 pub all-fit : (g : ℕ → Soil) (a n : ℕ) → Fit (a + n) (piecesFrom g a n)
 unfolding piecesFrom
@@ -72,15 +71,11 @@ all-fit g a zero = tt
 all-fit g a (suc n) = walk-fit g n a 1 (g a) (a + suc n) (omega arith) (omega arith) (omega arith)
 
 -- of slices, as of the pieces that they are cut from
-abbrev pub sliceSum : List Slice → ℕ
-sliceSum [] = 0
-sliceSum (c ∷ cs) = c .thickness + sliceSum cs
-
-slice-sum : (p : Pile) (cs : List Piece) → sliceSum (slicesOf p cs) ≡ thickSum cs
-unfolding slicesOf sliceOf
+slice-sum : (p : Pile) (cs : List Piece) → thicknessSum (sliceEach p cs) ≡ thickSum cs
+unfolding sliceEach sliceOf
 slice-sum p [] = refl
 slice-sum p (c ∷ cs) = ap (λ (n : ℕ). c .thickness + n) (slice-sum p cs)
 
 -- "Slice thicknesses add up to tip less head."
-pub slices-add-up : (g : ℕ → Soil) (p : Pile) → sliceSum (slicesOf p (pieces g (p .head) (p .tip))) ≡ p .tip - p .head
+pub slices-add-up : (g : ℕ → Soil) (p : Pile) → thicknessSum (sliceEach p (pieces g (p .head) (p .tip))) ≡ p .tip - p .head
 slices-add-up g p = slice-sum p (pieces g (p .head) (p .tip)) ∙ adds-up g (p .head) (p .tip)

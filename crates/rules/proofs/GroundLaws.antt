@@ -6,8 +6,7 @@ use Prim.Native.Nat.{ℕ, _-_, _<_, _≤_}
 use native.Mathlib.Omega.{arith}
 use borrow.Author.Tests.{lt-ltb, le-ltb}
 use Rattle.rules.specs.declared.Row.{Row}
-use Rattle.rules.specs.Checks.{depthOf}
-use Rattle.rules.specs.Ground.{none, soilOf, soilAt, Agree}
+use Rattle.rules.specs.Ground.{depthOf, none, soilOf, soilAt, Agree}
 use Rattle.rules.proofs.Basics.{split}
 
 pub soil-here : (r : Row) (rs : List Row) (m : ℕ) → m < r .thickness → soilAt (r ∷ rs) m ≡ soilOf r

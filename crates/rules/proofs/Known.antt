@@ -1,4 +1,4 @@
--- Cases A to L of document 01 hold of the definitions: one table, one theorem.
+-- Cases A to L of document 01 hold of the definitions, each with its whole reply: one table, one theorem.
 use mathlib.Core.Path.{_≡_, refl, sym, _∙_, ap, ap₂}
 use mathlib.Core.Bool.{Bool, true, false}
 use mathlib.Core.List.{List, [], _∷_, map, _++_}
@@ -10,33 +10,35 @@ use Rattle.rules.specs.declared.Pile.{Pile}
 use Rattle.rules.specs.declared.Slice.{Slice}
 use Rattle.rules.specs.declared.Answer.{Answer}
 use Rattle.rules.specs.Base.{pick, both, refuses, when, first, allZero}
-use Rattle.rules.specs.Records.{sliceSize}
+use Rattle.rules.specs.Records.{sliceSize, sliceFields}
 use Rattle.rules.specs.Limits.{tableSize, limitOf}
 use Rattle.rules.specs.Packed.{numberAt, rowsFrom, rowsOf, pileOf, rowBytes, pileBytes, sliceBytes, placesBytes, logFor, slicesBytes, tableBytes}
-use Rattle.rules.specs.Checks.{unusedWrong, wrongField, firstWrong, depthOf, fieldChecks, contentChecks, wrongPart, sectionCheck, pileChecks}
-use Rattle.rules.specs.Ground.{same, soilAt}
-use Rattle.rules.specs.Tables.{rowFor, placeOf, weighed, frictionAt, dashAt, tipAt}
-use Rattle.rules.specs.Numbers.{friction, factor, sliceOf, slicesOf, total, tipRead, resistance, tipForce, shaftForce, capacityOf, upliftOf}
-use Rattle.rules.specs.Answers.{early, late, checksFrom, refused, numbers, answerFrom, slicesFrom}
-use Rattle.rules.specs.Calculation.{slicesOfRows, freshAnswer, freshTable, lentChecks, calculated, tableAfter}
+use Rattle.rules.specs.Ground.{depthOf, same, soilAt}
+use Rattle.rules.specs.Tables.{rowFor, spotOf, weighed, frictionAt, dashAt, tipAt}
+use Rattle.rules.specs.Numbers.{friction, factor, sliceOf, sliceEach, frictionSum, tipRead, resistance, tipForce, shaftForce, capacityOf, upliftOf}
+use Rattle.rules.specs.Checks.{unusedWrong, wrongField, firstWrong, wrongPileField, sectionCheck, lentChecks}
+use Rattle.rules.specs.Answers.{refused, numbers}
+use Rattle.rules.specs.Calculation.{heldSlicesOf, freshAnswer, freshTable, calculated, tableAfter}
 use Rattle.rules.specs.Sheet.{digitsFrom, spaced, answerLine, sliceLine, sliceLines, totalLine, sheetOf, inputLimit, inputLog, inputPile, sheetText}
-use Rattle.rules.specs.ByRows.{Positive, lead, extent, cuts, topFrom, answerRows, slicesRows}
-use Rattle.rules.specs.Cases.{Shown, five, kPa, only, bars, logHex, pileHex, firstSlice, sheet, Case, joined, logIn, blankTable, resistanceIn, fiveOf, barOf, worked, work, print, cases}
+use Rattle.rules.specs.Cases.{Shown, five, refusedBy, kPa, bars, logHex, pileHex, firstSlice, sheet, Case, joined, logIn, blankTable, resistanceIn, replyOf, worked, work, print, cases}
+use Rattle.rules.proofs.Groups.{pileChecks, early, late, checksFrom, answerFrom, slicesFrom}
+use Rattle.rules.proofs.ByRows.{Positive, lead, extent, cuts, topFrom, answerRows, slicesRows}
 use Rattle.rules.proofs.AnswerLaws.{answer-by-rows, slices-by-rows}
 
-abbrev positive : List Row → Bool
+-- no row of 0 mm
+abbrev pub positive : List Row → Bool
 positive [] = true
 positive (r ∷ rs) = both (ltb 0 (r .thickness)) (positive rs)
 
-both-left : (a b : Bool) → T (both a b) → T a
+pub both-left : (a b : Bool) → T (both a b) → T a
 both-left true b t = tt
 both-left false b t = t
 
-both-right : (a b : Bool) → T (both a b) → T b
+pub both-right : (a b : Bool) → T (both a b) → T b
 both-right true b t = t
 both-right false b t = absurd t
 
-are-positive : (rs : List Row) → T (positive rs) → Positive rs
+pub are-positive : (rs : List Row) → T (positive rs) → Positive rs
 are-positive [] t = tt
 are-positive (r ∷ rs) t = (ltb→lt 0 (r .thickness) (both-left (ltb 0 (r .thickness)) (positive rs) t), are-positive rs (both-right (ltb 0 (r .thickness)) (positive rs) t))
 
@@ -56,7 +58,7 @@ module _ (log pile table : List ℕ) (w : Positive (rowsOf log)) where
   unfolding tableAfter freshTable
   table-rows = ap (λ (l : List Slice). pick (refuses (lentChecks log pile table)) table (tableBytes (tableSize (limitOf log)) l)) (sym (slices-by-rows (rowsOf log) (pileOf pile) w))
 
-  slices-rows : slicesOfRows (rowsOf log) (pileOf pile) ≡ slicesRows (rowsOf log) (pileOf pile)
+  slices-rows : heldSlicesOf (rowsOf log) (pileOf pile) ≡ slicesRows (rowsOf log) (pileOf pile)
   slices-rows = sym (slices-by-rows (rowsOf log) (pileOf pile) w)
 
 abbrev sheetRows : List ℕ → List ℕ
@@ -71,21 +73,21 @@ abbrev given : List Row → Pile → List ℕ
 given rs p = inputLog (inputLimit (logIn rs ++ pileBytes p)) (logIn rs ++ pileBytes p)
 
 abbrev rowed : Shown → List Row → Pile → List ℕ
-rowed (five l t s c u) rs p = fiveOf (calculatedRows (logIn rs) (pileBytes p) blankTable)
+rowed (five l t s c u) rs p = replyOf (calculatedRows (logIn rs) (pileBytes p) blankTable)
+rowed (refusedBy n) rs p = replyOf (calculatedRows (logIn rs) (pileBytes p) blankTable)
 rowed (kPa r) rs p = calculatedRows (logIn rs) (pileBytes p) blankTable .refusal .number ∷ resistanceIn rs p ∷ []
-rowed (only n) rs p = calculatedRows (logIn rs) (pileBytes p) blankTable .refusal .number ∷ []
-rowed (bars l) rs p = calculatedRows (logIn rs) (pileBytes p) blankTable .refusal .number ∷ joined (map barOf (slicesRows (rowsOf (logIn rs)) (pileOf (pileBytes p))))
+rowed (bars l) rs p = calculatedRows (logIn rs) (pileBytes p) blankTable .refusal .number ∷ joined (map sliceFields (slicesRows (rowsOf (logIn rs)) (pileOf (pileBytes p))))
 rowed (logHex l) rs p = logIn rs
 rowed (pileHex l) rs p = pileBytes p
 rowed (firstSlice l) rs p = take sliceSize (tableRows (logIn rs) (pileBytes p) blankTable)
 rowed (sheet l) rs p = sheetRows (logIn rs ++ pileBytes p)
 
 row-work : (s : Shown) (rs : List Row) (p : Pile) → Positive (rowsOf (logIn rs)) → Positive (rowsOf (given rs p)) → worked s rs p ≡ rowed s rs p
-row-work (five l t s c u) rs p w v = ap fiveOf (calculated-rows (logIn rs) (pileBytes p) blankTable w)
+row-work (five l t s c u) rs p w v = ap replyOf (calculated-rows (logIn rs) (pileBytes p) blankTable w)
+row-work (refusedBy n) rs p w v = ap replyOf (calculated-rows (logIn rs) (pileBytes p) blankTable w)
 row-work (kPa r) rs p w v = ap (λ (a : Answer). a .refusal .number ∷ resistanceIn rs p ∷ []) (calculated-rows (logIn rs) (pileBytes p) blankTable w)
-row-work (only n) rs p w v = ap (λ (a : Answer). a .refusal .number ∷ []) (calculated-rows (logIn rs) (pileBytes p) blankTable w)
 row-work (bars l) rs p w v =
-    ap₂ (λ (a : Answer) (t : List Slice). a .refusal .number ∷ joined (map barOf t)) (calculated-rows (logIn rs) (pileBytes p) blankTable w) (slices-rows (logIn rs) (pileBytes p) blankTable w)
+    ap₂ (λ (a : Answer) (t : List Slice). a .refusal .number ∷ joined (map sliceFields t)) (calculated-rows (logIn rs) (pileBytes p) blankTable w) (slices-rows (logIn rs) (pileBytes p) blankTable w)
 row-work (logHex l) rs p w v = refl
 row-work (pileHex l) rs p w v = refl
 row-work (firstSlice l) rs p w v = ap (take sliceSize) (table-rows (logIn rs) (pileBytes p) blankTable w)
@@ -113,9 +115,9 @@ unfolding inputLimit numberAt rowsFrom rowsOf rowBytes placesBytes logFor pileBy
 all-ready = tt
 
 by-computing : map rowWork cases ≡ map print cases
-unfolding limitOf inputLimit when first allZero numberAt rowsFrom rowsOf pileOf rowBytes pileBytes sliceBytes placesBytes logFor slicesBytes tableBytes unusedWrong wrongField firstWrong depthOf fieldChecks contentChecks wrongPart sectionCheck pileChecks same soilAt rowFor placeOf weighed frictionAt dashAt tipAt friction factor sliceOf slicesOf total tipRead resistance tipForce shaftForce capacityOf upliftOf early late checksFrom numbers answerFrom slicesFrom lentChecks digitsFrom spaced answerLine sliceLine sliceLines totalLine sheetOf lead extent cuts topFrom answerRows slicesRows
+unfolding limitOf inputLimit when first allZero numberAt rowsFrom rowsOf pileOf rowBytes pileBytes sliceBytes placesBytes logFor slicesBytes tableBytes unusedWrong wrongField firstWrong depthOf wrongPileField sectionCheck same soilAt rowFor spotOf weighed frictionAt dashAt tipAt friction factor sliceOf sliceEach frictionSum tipRead resistance tipForce shaftForce capacityOf upliftOf early late pileChecks checksFrom numbers answerFrom slicesFrom lentChecks digitsFrom spaced answerLine sliceLine sliceLines totalLine sheetOf lead extent cuts topFrom answerRows slicesRows
 by-computing = refl
 
--- Every number that document 01 prints for its cases A to L is what the definitions give.
+-- Every number that document 01 prints for its cases A to L, and the rest of each reply, is what the definitions give.
 pub known-numbers : map work cases ≡ map print cases
 known-numbers = all-rows cases all-ready ∙ by-computing

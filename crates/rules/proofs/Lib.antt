@@ -5,6 +5,12 @@ pub mod RefusalLaws
 pub mod FormLaws
 pub mod PlacesLaws
 pub mod RangeLaws
+pub mod InRangeLaws
+pub mod SoundLaws
+pub mod ListedLaws
+pub mod Groups
+pub mod OrderLaws
+pub mod ByRows
 pub mod PassedLaws
 pub mod GroundLaws
 pub mod SpliceLaws
@@ -13,9 +19,10 @@ pub mod FitLaws
 pub mod RoomLaws
 pub mod RowLaws
 pub mod SeatLaws
+pub mod StratumLaws
 pub mod TableLaws
 pub mod AnswerLaws
 pub mod EditLaws
 pub mod RunLaws
-pub mod Replies
 pub mod Known
+pub mod KnownEdits

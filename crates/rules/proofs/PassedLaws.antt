@@ -9,15 +9,17 @@ use lib.ListN.{length, drop}
 use borrow.Author.Tests.{ltb-false, le-ltb, eqb-false, ne-eqb}
 use Rattle.rules.specs.declared.Row.{Row}
 use Rattle.rules.specs.Base.{neg, refuses, when, allZero}
+use Rattle.rules.specs.Widths.{Bytes}
 use Rattle.rules.specs.Records.{rowSize}
 use Rattle.rules.specs.Limits.{logSize, limitOf, depthLimit}
 use Rattle.rules.specs.Packed.{countOf, rowsOf, logFor}
-use Rattle.rules.specs.Checks.{formless, countWrong, unusedWrong, firstWrong, depthOf, fieldChecks, contentChecks, logChecks, Passed}
-use Rattle.rules.specs.ByRows.{Positive}
+use Rattle.rules.specs.Ground.{depthOf}
+use Rattle.rules.specs.Checks.{formless, countWrong, unusedWrong, firstWrong, logChecks, Passed, tooDeep}
+use Rattle.rules.proofs.ByRows.{Positive}
 use Rattle.rules.proofs.Basics.{rows-length}
 use Rattle.rules.proofs.RefusalLaws.{first-off, first-none, when-off, when-false, either-left, either-right, neg-false}
 use Rattle.rules.proofs.FormLaws.{limit-long, limit-same}
-use Rattle.rules.proofs.PlacesLaws.{Bytes, log-rows, log-length, log-blank, log-whole}
+use Rattle.rules.proofs.PlacesLaws.{log-rows, log-length, log-blank, log-whole}
 use Rattle.rules.proofs.RangeLaws.{Fit, fit-of, of-fit, fit-positive, fit-bits}
 
 pub count-length : (s : List ℕ) → length (rowsOf s) ≡ countOf s
@@ -38,18 +40,18 @@ pub record Known (s : List ℕ) : Type 0 where
   pub rows : length (rowsOf s) ≡ countOf s
 
 pub known : (s : List ℕ) → Passed s → Known s
-unfolding logChecks contentChecks fieldChecks unusedWrong
+unfolding logChecks unusedWrong
 known s h =
-    let a = first-off (when (formless s) 1) (contentChecks s) h in
-    let b = first-off (fieldChecks s) (when (ltb depthLimit (depthOf (rowsOf s))) 4) (a .1) in
-    let c = first-off (when (unusedWrong s) 2) (firstWrong 1 (rowsOf s)) (b .0) in
+    let a = first-off (when (formless s) 1) _ h in
+    let c = first-off (when (unusedWrong s) 2) _ (a .1) in
+    let b = first-off (firstWrong 1 (rowsOf s)) (when (tooDeep (rowsOf s)) 4) (c .1) in
     let n : limitOf s ≡ 0 → ⊥ = eqb-false (limitOf s) 0 (when-off 0 (formless s) (a .0)) in
     let l : length s ≡ logSize (limitOf s) = limit-long s (omega (arith, n)) in
     let w = when-off 1 (unusedWrong s) (c .0) in
     let k = either-left (countWrong (limitOf s) (countOf s)) (neg (allZero (drop (1 + countOf s * rowSize) s))) w in
     let z : countOf s ≡ 0 → ⊥ = eqb-false (countOf s) 0 (either-left (eqb (countOf s) 0) (ltb (limitOf s) (countOf s)) k) in
     let m : countOf s ≤ limitOf s = ltb-false (limitOf s) (countOf s) (either-right (eqb (countOf s) 0) (ltb (limitOf s) (countOf s)) k) in
-    let f : Fit (rowsOf s) = fit-of 1 (rowsOf s) (c .1) in
+    let f : Fit (rowsOf s) = fit-of 1 (rowsOf s) (b .0) in
     record {
       form = omega (arith, n);
       long = l;
@@ -59,21 +61,21 @@ known s h =
       blank = neg-false _ (either-right (countWrong (limitOf s) (countOf s)) (neg (allZero (drop (1 + countOf s * rowSize) s))) w);
       fit = f;
       full = fit-positive (rowsOf s) f;
-      deep = ltb-false depthLimit (depthOf (rowsOf s)) (when-off 3 (ltb depthLimit (depthOf (rowsOf s))) (b .1));
+      deep = ltb-false depthLimit (depthOf (rowsOf s)) (when-off 3 (tooDeep (rowsOf s)) (b .1));
       rows = count-length s;
     }
 
 -- and no more is asked
 pub passed : (s : List ℕ) → 0 < limitOf s → 1 ≤ countOf s → countOf s ≤ limitOf s → allZero (drop (1 + countOf s * rowSize) s) ≡ true → Fit (rowsOf s)
     → depthOf (rowsOf s) ≤ depthLimit → Passed s
-unfolding logChecks contentChecks fieldChecks unusedWrong
+unfolding logChecks unusedWrong
 passed s h o m z f d =
     let e : formless s ≡ false = ne-eqb (limitOf s) 0 (λ (e : limitOf s ≡ 0). omega arith) in
     let u : unusedWrong s ≡ false = simp (ne-eqb (countOf s) 0 (λ (e : countOf s ≡ 0). omega arith), le-ltb (limitOf s) (countOf s) m, z) in
-    first-none (when (formless s) 1) (contentChecks s) (ap refuses (when-false 1 (formless s) e))
-    (first-none (fieldChecks s) (when (ltb depthLimit (depthOf (rowsOf s))) 4)
-    (first-none (when (unusedWrong s) 2) (firstWrong 1 (rowsOf s)) (ap refuses (when-false 2 (unusedWrong s) u)) (ap refuses (of-fit 1 (rowsOf s) f)))
-    (ap refuses (when-false 4 (ltb depthLimit (depthOf (rowsOf s))) (le-ltb depthLimit (depthOf (rowsOf s)) d))))
+    first-none (when (formless s) 1) _ (ap refuses (when-false 1 (formless s) e))
+    (first-none (when (unusedWrong s) 2) _ (ap refuses (when-false 2 (unusedWrong s) u))
+    (first-none (firstWrong 1 (rowsOf s)) (when (tooDeep (rowsOf s)) 4) (ap refuses (of-fit 1 (rowsOf s) f))
+    (ap refuses (when-false 4 (tooDeep (rowsOf s)) (le-ltb depthLimit (depthOf (rowsOf s)) d)))))
 
 -- it is the log of its rows
 pub whole : (s : List ℕ) → Passed s → Bytes s → logFor (limitOf s) (rowsOf s) ≡ s

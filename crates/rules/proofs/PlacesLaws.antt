@@ -2,7 +2,7 @@
 use mathlib.Core.Path.{_≡_, refl, sym, _∙_, ap, ap₂}
 use mathlib.Core.Bool.{true}
 use mathlib.Core.List.{List, [], _∷_, _++_, append-assoc}
-use Prim.Native.Nat.{ℕ, zero, suc, _+_, _*_, _<_, _≤_}
+use Prim.Native.Nat.{ℕ, zero, suc, _+_, _*_, _≤_}
 use native.Mathlib.Nat.{zero-add}
 use native.Mathlib.Omega.{arith}
 use lib.Dec.{eqb}
@@ -11,7 +11,7 @@ use lib.ListN.{length, getD, take, drop, replicate, length-append, length-drop, 
 use lib.Seq.{drop-drop, getD-drop, length-take-le, take-append-add, drop-append-add}
 use Rattle.rules.specs.declared.Row.{Row}
 use Rattle.rules.specs.Base.{allZero}
-use Rattle.rules.specs.Widths.{cut, join, bytes, Fits}
+use Rattle.rules.specs.Widths.{fieldsOf, join, bytes, Fits, Bytes}
 use Rattle.rules.specs.Records.{rowWidths, rowFrom, rowFields, rowSize}
 use Rattle.rules.specs.Limits.{logSize}
 use Rattle.rules.specs.Packed.{numberAt, rowAt, rowsFrom, rowsOf, countOf, rowBytes, noRow, placesBytes, logFor}
@@ -21,9 +21,6 @@ use Rattle.rules.proofs.WidthLaws.{there, back, number-part, number-fro
 abbrev pub AllFit : List Row → Type 0
 AllFit [] = Unit {0}
 AllFit (r ∷ rs) = Fits rowWidths (rowFields r) × AllFit rs
-
-abbrev pub Bytes : List ℕ → Type 0
-Bytes s = (k : ℕ) → getD s k 0 < 256
 
 pub row-long : (r : Row) → length (rowBytes r) ≡ rowSize
 unfolding rowBytes
@@ -40,7 +37,7 @@ unfolding rowsFrom
 rows-part s i j zero = refl
 rows-part s i j (suc n) =
     let e : i + (j + rowSize) ≡ i + j + rowSize = omega arith in
-    ap₂ (λ (r : Row) (t : List Row). r ∷ t) (ap (λ (w : ℕ). rowFrom (cut rowWidths w)) (number-part s i j rowSize)) (rows-part s i (j + rowSize) n ∙ ap (λ (k : ℕ). rowsFrom s k n) e)
+    ap₂ (λ (r : Row) (t : List Row). r ∷ t) (ap (λ (w : ℕ). rowFrom (fieldsOf rowWidths w)) (number-part s i j rowSize)) (rows-part s i (j + rowSize) n ∙ ap (λ (k : ℕ). rowsFrom s k n) e)
 
 -- the rows that were packed are read
 pub rows-there : (n : ℕ) (rs : List Row) → length rs ≤ n → AllFit rs → rowsFrom (placesBytes n rs) 0 (length rs) ≡ rs
@@ -151,7 +148,7 @@ pub row-back : (t : List ℕ) → rowSize ≤ length t → Bytes t → rowBytes 
 unfolding rowBytes
 row-back t h b =
     let e : length (take rowSize t) ≡ rowSize = length-take-le rowSize t h in
-    ap (λ (w : ℕ). cut (bytes rowSize) (join rowWidths (cut rowWidths w)))
+    ap (λ (w : ℕ). fieldsOf (bytes rowSize) (join rowWidths (fieldsOf rowWidths w)))
     (ap (λ (s : List ℕ). numberAt s 0 rowSize) (sym (take-append-drop rowSize t)) ∙ number-front rowSize (take rowSize t) (drop rowSize t) (omega arith))
     ∙ back rowSize rowWidths (take rowSize t) refl e (bytes-take rowSize t b)
 

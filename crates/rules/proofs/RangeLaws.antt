@@ -11,11 +11,11 @@ use Rattle.rules.specs.declared.Row.{Row}
 use Rattle.rules.specs.Base.{pick, within, refuses, nothing}
 use Rattle.rules.specs.Widths.{Fits}
 use Rattle.rules.specs.Records.{rowWidths, rowFields}
-use Rattle.rules.specs.Limits.{depthLimit}
+use Rattle.rules.specs.Limits.{thicknessLimit}
 use Rattle.rules.specs.Packed.{noRow}
-use Rattle.rules.specs.Checks.{indexRight, wrongField, firstWrong}
 use Rattle.rules.specs.Edits.{part}
-use Rattle.rules.specs.ByRows.{Positive}
+use Rattle.rules.specs.Checks.{indexInRange, wrongField, firstWrong}
+use Rattle.rules.proofs.ByRows.{Positive}
 use Rattle.rules.proofs.RefusalLaws.{within-low, within-high, within-true, none-picked, not-picked}
 use Rattle.rules.proofs.PlacesLaws.{AllFit}
 
@@ -56,11 +56,11 @@ fit-at (r ∷ rs) zero l h = h .0
 fit-at (r ∷ rs) (suc i) l h = fit-at rs i (omega arith) (h .1)
 
 -- the thickness of a row whose fields are in range
-pub fit-thickness : (r : Row) → wrongField r ≡ 0 → (1 ≤ r .thickness) × (r .thickness ≤ depthLimit)
+pub fit-thickness : (r : Row) → wrongField r ≡ 0 → (1 ≤ r .thickness) × (r .thickness ≤ thicknessLimit)
 unfolding wrongField
 fit-thickness r h =
-    let p = none-picked (within 1 depthLimit (r .thickness)) _ 0 h .0 in
-    (within-low 1 depthLimit (r .thickness) p, within-high 1 depthLimit (r .thickness) p)
+    let p = none-picked (within 1 thicknessLimit (r .thickness)) _ 0 h .0 in
+    (within-low 1 thicknessLimit (r .thickness) p, within-high 1 thicknessLimit (r .thickness) p)
 
 pub fit-positive : (rs : List Row) → Fit rs → Positive rs
 fit-positive [] h = tt
@@ -71,12 +71,12 @@ pub fit-part : (r : Row) (t : ℕ) → wrongField r ≡ 0 → 1 ≤ t → t ≤ 
 unfolding wrongField
 fit-part r t h l g =
     let b = fit-thickness r h in
-    let e : within 1 depthLimit (r .thickness) ≡ true = within-true 1 depthLimit (r .thickness) (b .0) (b .1) in
-    let f : within 1 depthLimit t ≡ true = within-true 1 depthLimit t l (omega (arith, b .1)) in
+    let e : within 1 thicknessLimit (r .thickness) ≡ true = within-true 1 thicknessLimit (r .thickness) (b .0) (b .1) in
+    let f : within 1 thicknessLimit t ≡ true = within-true 1 thicknessLimit t l (omega (arith, b .1)) in
     rw f (rw e at h)
 
 -- the five tests of a row
-five : (a b c d e : Bool) → _≡_ {A = ℕ} (pick a (pick b (pick c (pick d (pick e 0 5) 4) 3) 2) 1) 0 → (a ≡ true) × (b ≡ true) × (c ≡ true) × (d ≡ true) × (e ≡ true)
+pub five : (a b c d e : Bool) → _≡_ {A = ℕ} (pick a (pick b (pick c (pick d (pick e 0 5) 4) 3) 2) 1) 0 → (a ≡ true) × (b ≡ true) × (c ≡ true) × (d ≡ true) × (e ≡ true)
 five a b c d e h =
     let p = none-picked a _ 0 h in
     let q = none-picked b _ 1 (p .1) in
@@ -84,7 +84,7 @@ five a b c d e h =
     let s = none-picked d _ 3 (r .1) in
     (p .0, q .0, r .0, s .0, none-picked e _ 4 (s .1) .0)
 
-index-high : (kind index : ℕ) → indexRight kind index ≡ true → index < 256
+index-high : (kind index : ℕ) → indexInRange kind index ≡ true → index < 256
 index-high kind index h = go (leb kind 3) h
   where
     go : (t : Bool) → pick t (eqb index 100) (leb index 200) ≡ true → index < 256
@@ -95,8 +95,8 @@ index-high kind index h = go (leb kind 3) h
 pub right-fits : (r : Row) → wrongField r ≡ 0 → Fits rowWidths (rowFields r)
 unfolding wrongField
 right-fits r h =
-    let p = five (within 1 depthLimit (r .thickness)) (within 1 6 (r .kind)) (indexRight (r .kind) (r .index)) (leb (r .saturation) 100) (eqb (r .zero) 0) h in (
-      omega (arith, within-high 1 depthLimit (r .thickness) (p .0)),
+    let p = five (within 1 thicknessLimit (r .thickness)) (within 1 6 (r .kind)) (indexInRange (r .kind) (r .index)) (leb (r .saturation) 100) (eqb (r .zero) 0) h in (
+      omega (arith, within-high 1 thicknessLimit (r .thickness) (p .0)),
       (
         omega (arith, within-high 1 6 (r .kind) (p .1)),
         (index-high (r .kind) (r .index) (p .2), (omega (arith, leb-true (r .saturation) 100 (p .3)), (omega (arith, eqb-true (r .zero) 0 (p .4)), tt))),

@@ -32,6 +32,15 @@ first-off a b h = pick-off (refuses a) a b refl h
 pub first-none : (a b : Refusal) → refuses a ≡ false → refuses b ≡ false → refuses (first a b) ≡ false
 first-none a b h k = ap refuses (first-right a b h) ∙ k
 
+-- checks in order, however they are grouped
+pub first-assoc : (a b c : Refusal) → first (first a b) c ≡ first a (first b c)
+unfolding first
+first-assoc a b c = go (refuses a) refl
+  where
+    go : (t : Bool) → refuses a ≡ t → pick (refuses (pick (refuses a) a b)) (pick (refuses a) a b) c ≡ pick (refuses a) a (pick (refuses b) b c)
+    go true e = rw (e, e)
+    go false e = rw e
+
 pub when-true : (n : ℕ) (t : Bool) → t ≡ true → when t n ≡ refuse n
 unfolding when
 when-true n t h = rw h

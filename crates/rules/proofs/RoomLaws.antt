@@ -9,15 +9,14 @@ use lib.ListN.{length}
 use lib.Dec.{ltb, eqb}
 use borrow.Author.Tests.{lt-ltb, le-ltb, eqb-true, eqb-false}
 use Rattle.rules.specs.Base.{pick, either, neg}
+use Rattle.rules.specs.Limits.{rowLimit, placesFor, placeLimit, tipLimit, sliceThickness}
+use Rattle.rules.specs.Ground.{depthOf, same, soilAt}
+use Rattle.rules.specs.Pieces.{Piece, piece, ends, walk, piecesFrom, pieces}
+use Rattle.rules.specs.Numbers.{sliceEach}
+use Rattle.rules.specs.Checks.{tooMany}
 use Rattle.rules.specs.declared.Soil.{Soil}
 use Rattle.rules.specs.declared.Row.{Row}
 use Rattle.rules.specs.declared.Pile.{Pile}
-use Rattle.rules.specs.Checks.{depthOf}
-use Rattle.rules.specs.Ground.{same, soilAt}
-use Rattle.rules.specs.Pieces.{Piece, piece, ends, walk, piecesFrom, pieces}
-use Rattle.rules.specs.Numbers.{slicesOf}
-use Rattle.rules.specs.Limits.{rowLimit, placesFor, placeLimit, tipLimit, sliceLimit}
-use Rattle.rules.specs.Answers.{tooMany}
 use Rattle.rules.proofs.Basics.{split, same-eq, same-of}
 use Rattle.rules.proofs.GroundLaws.{soil-here, soil-below}
 
@@ -87,23 +86,23 @@ either-on false b h e = absurd (true≢false (sym e ∙ ap neg h))
 
 -- the open piece has t millimetres, the last of them m
 module _ (g : ℕ → Soil) (c : ℕ → ℕ) (e : ℕ) (on : Onward g c) (some : (m : ℕ) → m < e → 0 < c m) where
-  room-walk : (n a t m : ℕ) (s : Soil) → a + t ≡ m + 1 → t ≤ sliceLimit → s ≡ g m → m + n < e → length (walk g n a t s) ≤ c m + (t + n - 1) / sliceLimit
+  room-walk : (n a t m : ℕ) (s : Soil) → a + t ≡ m + 1 → t ≤ sliceThickness → s ≡ g m → m + n < e → length (walk g n a t s) ≤ c m + (t + n - 1) / sliceThickness
   unfolding walk
   room-walk zero a t m s p h q l = omega (arith, some m (omega arith))
   room-walk (suc n) a t m s p h q l =
       rw p
-      (pick-length (ends t s (g (m + 1))) (piece a t s ∷ walk g n (m + 1) 1 (g (m + 1))) (walk g n a (t + 1) s) (c m + (t + suc n - 1) / sliceLimit)
+      (pick-length (ends t s (g (m + 1))) (piece a t s ∷ walk g n (m + 1) 1 (g (m + 1))) (walk g n a (t + 1) s) (c m + (t + suc n - 1) / sliceThickness)
       (λ b.
-      let i : length (walk g n (m + 1) 1 (g (m + 1))) ≤ c (m + 1) + (1 + n - 1) / sliceLimit = room-walk n (m + 1) 1 (m + 1) (g (m + 1)) (omega arith) (omega arith) refl (omega arith) in
+      let i : length (walk g n (m + 1) 1 (g (m + 1))) ≤ c (m + 1) + (1 + n - 1) / sliceThickness = room-walk n (m + 1) 1 (m + 1) (g (m + 1)) (omega arith) (omega arith) refl (omega arith) in
       ⊎-elim (λ (k : c (m + 1) < c m). omega arith)
       (λ (k : (g (m + 1) ≡ g m) × (c (m + 1) ≡ c m)).
-      let f : t ≡ sliceLimit = eqb-true t sliceLimit (either-on (eqb t sliceLimit) (same s (g (m + 1))) (same-of s (g (m + 1)) (q ∙ sym (k .0))) b) in
+      let f : t ≡ sliceThickness = eqb-true t sliceThickness (either-on (eqb t sliceThickness) (same s (g (m + 1))) (same-of s (g (m + 1)) (q ∙ sym (k .0))) b) in
       omega (arith, k .1))
       (on m))
       (λ b.
-      let o = either-off (eqb t sliceLimit) (same s (g (m + 1))) b in
-      let f : t ≡ sliceLimit → ⊥ = eqb-false t sliceLimit (o .0) in
-      let i : length (walk g n a (t + 1) s) ≤ c (m + 1) + (t + 1 + n - 1) / sliceLimit
+      let o = either-off (eqb t sliceThickness) (same s (g (m + 1))) b in
+      let f : t ≡ sliceThickness → ⊥ = eqb-false t sliceThickness (o .0) in
+      let i : length (walk g n a (t + 1) s) ≤ c (m + 1) + (t + 1 + n - 1) / sliceThickness
       = room-walk n a (t + 1) (m + 1) s (omega arith) (omega (arith, f)) (same-eq s (g (m + 1)) (o .1)) (omega arith) in
       ⊎-elim (λ (k : c (m + 1) < c m). omega arith) (λ (k : (g (m + 1) ≡ g m) × (c (m + 1) ≡ c m)). omega (arith, k .1)) (on m)))
 
@@ -119,14 +118,14 @@ room rs head tip n k d h =
     omega (arith, room-from (soilAt rs) (rank rs) (depthOf rs) (onward rs) (rank-some rs) head (tip - head) (omega arith) (omega arith), rank-most rs head)
 
 -- as many slices as pieces
-slices-length : (p : Pile) (cs : List Piece) → length (slicesOf p cs) ≡ length cs
-unfolding slicesOf
+slices-length : (p : Pile) (cs : List Piece) → length (sliceEach p cs) ≡ length cs
+unfolding sliceEach
 slices-length p [] = refl
 slices-length p (c ∷ cs) = ap suc (slices-length p cs)
 
-pub slices-room : (rs : List Row) (p : Pile) (n : ℕ) → length rs ≤ n → p .tip ≤ depthOf rs → p .tip ≤ tipLimit → length (slicesOf p (pieces (soilAt rs) (p .head) (p .tip))) ≤ placesFor n
+pub slices-room : (rs : List Row) (p : Pile) (n : ℕ) → length rs ≤ n → p .tip ≤ depthOf rs → p .tip ≤ tipLimit → length (sliceEach p (pieces (soilAt rs) (p .head) (p .tip))) ≤ placesFor n
 slices-room rs p n k d h = rw (slices-length p (pieces (soilAt rs) (p .head) (p .tip))) (room rs (p .head) (p .tip) n k d h)
 
 -- 15 cannot come to pass: a log within the row limit whose rows reach the tip
-pub never-many : (rs : List Row) (p : Pile) → length rs ≤ rowLimit → p .tip ≤ depthOf rs → p .tip ≤ tipLimit → tooMany (length (slicesOf p (pieces (soilAt rs) (p .head) (p .tip)))) ≡ false
+pub never-many : (rs : List Row) (p : Pile) → length rs ≤ rowLimit → p .tip ≤ depthOf rs → p .tip ≤ tipLimit → tooMany (length (sliceEach p (pieces (soilAt rs) (p .head) (p .tip)))) ≡ false
 never-many rs p k d h = le-ltb placeLimit _ (slices-room rs p rowLimit k d h)

@@ -8,12 +8,11 @@ use native.Mathlib.Omega.{arith}
 use lib.Dec.{eqb}
 use borrow.Author.Tests.{lt-ltb, le-ltb, eq-eqb}
 use Rattle.rules.specs.Base.{either, neg}
+use Rattle.rules.specs.Ground.{depthOf, same, soilOf, soilAt}
+use Rattle.rules.specs.Pieces.{Piece, piece, ends, piecesFrom}
+use Rattle.rules.proofs.ByRows.{Positive, lead, extent, thickAt, cuts}
 use Rattle.rules.specs.declared.Soil.{Soil}
 use Rattle.rules.specs.declared.Row.{Row}
-use Rattle.rules.specs.Checks.{depthOf}
-use Rattle.rules.specs.Ground.{same, soilOf, soilAt}
-use Rattle.rules.specs.Pieces.{Piece, piece, ends, piecesFrom}
-use Rattle.rules.specs.ByRows.{Positive, lead, extent, thickAt, cuts}
 use Rattle.rules.proofs.Basics.{split, sure, same-eq}
 use Rattle.rules.proofs.GroundLaws.{soil-here, soil-below}
 use Rattle.rules.proofs.PieceLaws.{turn}
@@ -100,7 +99,8 @@ extent-out (r ∷ rs) m p h =
     ap₂ same (soil-below r rs m q) (soil-below r rs (m + extent (r ∷ rs) m) (omega arith) ∙ ap (soilAt rs) b) ∙ extent-out rs (m - r .thickness) (p .1) (omega arith))
     (split m (r .thickness))
 
-changed : (t b : Bool) → b ≡ false → either t (neg b) ≡ true
+-- a piece ends where the soil changes
+pub changed : (t b : Bool) → b ≡ false → either t (neg b) ≡ true
 changed true b h = refl
 changed false b h = rw h
 

@@ -7,12 +7,11 @@ use Prim.Native.Nat.{ℕ, zero, suc, _+_, _-_, _<_, _≤_}
 use native.Mathlib.Omega.{arith}
 use borrow.Author.Tests.{lt-ltb, le-ltb}
 use Rattle.rules.specs.Base.{pick}
+use Rattle.rules.specs.Ground.{depthOf, same, none, soilOf, soilAt}
+use Rattle.rules.specs.Pieces.{runTop}
+use Rattle.rules.proofs.ByRows.{Positive, topFrom, topAt}
 use Rattle.rules.specs.declared.Soil.{Soil}
 use Rattle.rules.specs.declared.Row.{Row}
-use Rattle.rules.specs.Checks.{depthOf}
-use Rattle.rules.specs.Ground.{same, none, soilOf, soilAt}
-use Rattle.rules.specs.Pieces.{runTop}
-use Rattle.rules.specs.ByRows.{Positive, topFrom, topAt}
 use Rattle.rules.proofs.Basics.{split, sure, same-eq, same-of}
 use Rattle.rules.proofs.GroundLaws.{soil-here, soil-below}
 
@@ -24,7 +23,8 @@ run-on g s b (suc m) c =
     let e : b + suc m ≡ suc (b + m) = omega arith in
     rw (e, same-of s (g (b + m)) (sym (c (b + m) (omega arith) (omega arith)))) (run-on g s b m (λ k p q. c k p (omega arith)))
 
-apart : (g : ℕ → Soil) (s r : Soil) (b : ℕ) → (0 < b → g (b - 1) ≡ s) → same s r ≡ false → runTop g r b ≡ b
+-- and begins where another soil ends
+pub apart : (g : ℕ → Soil) (s r : Soil) (b : ℕ) → (0 < b → g (b - 1) ≡ s) → same s r ≡ false → runTop g r b ≡ b
 unfolding runTop
 apart g s r zero k e = refl
 apart g s r (suc b) k e =

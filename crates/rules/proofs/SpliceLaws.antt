@@ -9,8 +9,7 @@ use lib.ListN.{length, getD, take, drop, length-append, length-drop}
 use lib.Seq.{drop-drop, length-take-le, split-at}
 use Rattle.rules.specs.declared.Row.{Row}
 use Rattle.rules.specs.Packed.{noRow}
-use Rattle.rules.specs.Checks.{depthOf}
-use Rattle.rules.specs.Ground.{soilAt, Agree}
+use Rattle.rules.specs.Ground.{depthOf, soilAt, Agree}
 use Rattle.rules.specs.Edits.{part, splice}
 use Rattle.rules.proofs.Basics.{split}
 use Rattle.rules.proofs.GroundLaws.{soil-here, soil-below}

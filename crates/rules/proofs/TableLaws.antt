@@ -10,8 +10,8 @@ use lib.ListN.{getD}
 use borrow.Author.Tests.{lt-ltb, le-ltb}
 use Rattle.rules.specs.declared.Soil.{Soil}
 use Rattle.rules.specs.Base.{both, either}
-use Rattle.rules.specs.Tables.{frictionDepths, rowFor, placeOf, frictionWeighed, frictionAt}
-use Rattle.rules.specs.Numbers.{friction, frictionPlace}
+use Rattle.rules.specs.Tables.{frictionDepths, rowFor, spotOf, frictionWeighed, frictionAt}
+use Rattle.rules.specs.Numbers.{friction, frictionSpot}
 use Rattle.rules.proofs.Basics.{split}
 
 -- a test at every number below n
@@ -64,8 +64,8 @@ divides n w t = ⊎-elim (λ (e : n ≡ 2000). rw e (omega arith)) (λ (r : (n �
     which false false e f t = inr (inr (eqb→eq n 10000 t))
 
 -- "Friction is kept in units of 1/200 Pa, in which it is always whole.": no remainder is dropped
-pub friction-whole : (s : Soil) (mid : ℕ) → friction s mid * frictionPlace s mid .span ≡ frictionWeighed (frictionPlace s mid) * 20000
-unfolding friction frictionAt placeOf
+pub friction-whole : (s : Soil) (mid : ℕ) → friction s mid * frictionSpot s mid .span ≡ frictionWeighed (frictionSpot s mid) * 20000
+unfolding friction frictionAt spotOf
 friction-whole s mid =
-    let i : ℕ = frictionPlace s mid .row in
-    divides (apart i) (frictionWeighed (frictionPlace s mid)) (at 12 (λ k. either (eqb (apart k) 2000) (either (eqb (apart k) 4000) (eqb (apart k) 10000))) tt i (omega (arith, row-le frictionDepths 2000 11 0 (max 2000 (min mid 70000)))))
+    let i : ℕ = frictionSpot s mid .row in
+    divides (apart i) (frictionWeighed (frictionSpot s mid)) (at 12 (λ k. either (eqb (apart k) 2000) (either (eqb (apart k) 4000) (eqb (apart k) 10000))) tt i (omega (arith, row-le frictionDepths 2000 11 0 (max 2000 (min mid 70000)))))

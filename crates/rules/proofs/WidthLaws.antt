@@ -7,10 +7,10 @@ use native.Mathlib.Omega.{arith}
 use lib.ListN.{length, getD, drop}
 use lib.Seq.{drop-drop, getD-drop}
 use lib.Pow.{pow-pos, pow-add, high, low, field, mod-pow-add, mod-mod-pow, shr-shr}
-use Rattle.rules.specs.Widths.{bitsOf, cut, join, bytes, Fits}
+use Rattle.rules.specs.Widths.{bitsOf, fieldsOf, join, bytes, Fits}
 use Rattle.rules.specs.Packed.{numberAt}
 
-pub cut-fits : (ws : List ℕ) (w : ℕ) → Fits ws (cut ws w)
+pub cut-fits : (ws : List ℕ) (w : ℕ) → Fits ws (fieldsOf ws w)
 cut-fits [] w = tt
 cut-fits (n ∷ ns) w = (mod-lt _ (pow-pos n), cut-fits ns w)
 
@@ -24,13 +24,13 @@ join-small (n ∷ ns) (v ∷ vs) f = rw (pow-add 2 n (bitsOf ns)) (under v (2 ^ 
     under a b c d h k = omega (arith, mul-le-mul-right c h)
 
 -- bits above the record's are not looked at
-pub cut-mod : (ws : List ℕ) (j w : ℕ) → cut ws (w % 2 ^ (j + bitsOf ws)) ≡ cut ws w
+pub cut-mod : (ws : List ℕ) (j w : ℕ) → fieldsOf ws (w % 2 ^ (j + bitsOf ws)) ≡ fieldsOf ws w
 cut-mod [] j w = refl
 cut-mod (n ∷ ns) j w =
     rw (← add-assoc j n (bitsOf ns))
     (ap₂ (λ (x : ℕ) (l : List ℕ). x ∷ l) (ap (λ (x : ℕ). x % 2 ^ n) (field w (j + n) (bitsOf ns)) ∙ mod-mod-pow (w / 2 ^ bitsOf ns) j n) (cut-mod ns (j + n) w))
 
-pub cut-join : (ws vs : List ℕ) → Fits ws vs → cut ws (join ws vs) ≡ vs
+pub cut-join : (ws vs : List ℕ) → Fits ws vs → fieldsOf ws (join ws vs) ≡ vs
 cut-join [] [] f = refl
 cut-join [] (v ∷ vs) f = absurd f
 cut-join (n ∷ ns) [] f = absurd f
@@ -38,16 +38,16 @@ cut-join (n ∷ ns) (v ∷ vs) f =
     let l : join ns vs < 2 ^ bitsOf ns = join-small ns vs (f .1) in
     let w : ℕ = v * 2 ^ bitsOf ns + join ns vs in
     ap₂ (λ (x : ℕ) (l : List ℕ). x ∷ l) (ap (λ (x : ℕ). x % 2 ^ n) (high v (bitsOf ns) l) ∙ mod-eq-of-lt (f .0))
-    (sym (rw zero-add at (cut-mod ns 0 w)) ∙ ap (cut ns) (low v (bitsOf ns) l) ∙ cut-join ns vs (f .1))
+    (sym (rw zero-add at (cut-mod ns 0 w)) ∙ ap (fieldsOf ns) (low v (bitsOf ns) l) ∙ cut-join ns vs (f .1))
 
-pub join-cut : (ws : List ℕ) (w : ℕ) → join ws (cut ws w) ≡ w % 2 ^ bitsOf ws
+pub join-cut : (ws : List ℕ) (w : ℕ) → join ws (fieldsOf ws w) ≡ w % 2 ^ bitsOf ws
 join-cut [] w = sym (mod-one w)
 join-cut (n ∷ ns) w = ap (λ (x : ℕ). w / 2 ^ bitsOf ns % 2 ^ n * 2 ^ bitsOf ns + x) (join-cut ns w) ∙ sym (mod-pow-add w n (bitsOf ns))
 
 -- The round trip, both ways: fields of the widths ws, made into fields of as many bits and read back.
-pub trip : (us ws vs : List ℕ) → bitsOf us ≡ bitsOf ws → Fits ws vs → cut ws (join us (cut us (join ws vs))) ≡ vs
+pub trip : (us ws vs : List ℕ) → bitsOf us ≡ bitsOf ws → Fits ws vs → fieldsOf ws (join us (fieldsOf us (join ws vs))) ≡ vs
 trip us ws vs e f =
-    ap (cut ws) (join-cut us (join ws vs) ∙ ap (λ (n : ℕ). join ws vs % 2 ^ n) e ∙ mod-eq-of-lt (join-small ws vs f)) ∙ cut-join ws vs f
+    ap (fieldsOf ws) (join-cut us (join ws vs) ∙ ap (λ (n : ℕ). join ws vs % 2 ^ n) e ∙ mod-eq-of-lt (join-small ws vs f)) ∙ cut-join ws vs f
 
 -- what stands behind a record is not looked at
 pub join-front : (ws vs t : List ℕ) → Fits ws vs → join ws (vs ++ t) ≡ join ws vs
@@ -70,12 +70,12 @@ bytes-fit (suc n) [] e b = let z : ⊥ = omega arith in absurd z
 bytes-fit (suc n) (x ∷ s) e b = (b 0, bytes-fit n s (omega arith) (λ (k : ℕ). b (suc k)))
 
 -- A record of n bytes: the fields that were packed are read, whatever bytes follow
-pub there : (n : ℕ) (ws vs t : List ℕ) → bitsOf (bytes n) ≡ bitsOf ws → Fits ws vs → cut ws (numberAt (cut (bytes n) (join ws vs) ++ t) 0 n) ≡ vs
+pub there : (n : ℕ) (ws vs t : List ℕ) → bitsOf (bytes n) ≡ bitsOf ws → Fits ws vs → fieldsOf ws (numberAt (fieldsOf (bytes n) (join ws vs) ++ t) 0 n) ≡ vs
 unfolding numberAt
-there n ws vs t e f = ap (cut ws) (join-front (bytes n) (cut (bytes n) (join ws vs)) t (cut-fits (bytes n) (join ws vs))) ∙ trip (bytes n) ws vs e f
+there n ws vs t e f = ap (fieldsOf ws) (join-front (bytes n) (fieldsOf (bytes n) (join ws vs)) t (cut-fits (bytes n) (join ws vs))) ∙ trip (bytes n) ws vs e f
 
 -- and the fields that were read pack to the bytes
-pub back : (n : ℕ) (ws s : List ℕ) → bitsOf ws ≡ bitsOf (bytes n) → length s ≡ n → ((k : ℕ) → getD s k 0 < 256) → cut (bytes n) (join ws (cut ws (numberAt s 0 n))) ≡ s
+pub back : (n : ℕ) (ws s : List ℕ) → bitsOf ws ≡ bitsOf (bytes n) → length s ≡ n → ((k : ℕ) → getD s k 0 < 256) → fieldsOf (bytes n) (join ws (fieldsOf ws (numberAt s 0 n))) ≡ s
 unfolding numberAt
 back n ws s e h b = trip ws (bytes n) s e (bytes-fit n s h b)
 
@@ -88,7 +88,7 @@ bits-append : (ws us : List ℕ) → bitsOf (ws ++ us) ≡ bitsOf us + bitsOf ws
 bits-append [] us = omega arith
 bits-append (n ∷ ns) us = omega (arith, bits-append ns us)
 
-pub cut-append : (ws us : List ℕ) (w : ℕ) → cut (ws ++ us) w ≡ cut ws (w / 2 ^ bitsOf us) ++ cut us w
+pub cut-append : (ws us : List ℕ) (w : ℕ) → fieldsOf (ws ++ us) w ≡ fieldsOf ws (w / 2 ^ bitsOf us) ++ fieldsOf us w
 cut-append [] us w = refl
 cut-append (n ∷ ns) us w =
     ap₂ (λ (x : ℕ) (l : List ℕ). x ∷ l) (ap (λ (k : ℕ). w / 2 ^ k % 2 ^ n) (bits-append ns us) ∙ ap (λ (x : ℕ). x % 2 ^ n) (sym (shr-shr w (bitsOf us) (bitsOf ns)))) (cut-append ns us w)

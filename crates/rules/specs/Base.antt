@@ -1,4 +1,4 @@
--- A choice by a test, the connectives of tests, and a first refusal.
+-- A choice by a test, the connectives of tests, and the first refusal of a list.
 use mathlib.Core.Bool.{Bool, true, false}
 use mathlib.Core.List.{List, [], _∷_}
 use Prim.Native.Nat.{ℕ}
@@ -42,6 +42,15 @@ refuses r = ltb 0 (r .number)
 -- checks "in order": a, or b where a refuses nothing
 unfoldable pub first : Refusal → Refusal → Refusal
 first a b = pick (refuses a) a b
+
+-- the first of a list that refuses; where none does, the last
+abbrev pub firstOf : Refusal → List Refusal → Refusal
+firstOf r [] = r
+firstOf r (t ∷ ts) = first r (firstOf t ts)
+
+abbrev pub inOrder : List Refusal → Refusal
+inOrder [] = nothing
+inOrder (r ∷ rs) = firstOf r rs
 
 unfoldable pub allZero : List ℕ → Bool
 allZero [] = true

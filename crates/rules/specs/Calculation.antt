@@ -1,41 +1,30 @@
 -- A calculation on lent bytes: what it replies, and the slice table it leaves.
-use mathlib.Core.Bool.{Bool}
 use mathlib.Core.List.{List}
 use Prim.Native.Nat.{ℕ}
-use Rattle.rules.specs.declared.Refusal.{Refusal}
 use Rattle.rules.specs.declared.Pile.{Pile}
 use Rattle.rules.specs.declared.Row.{Row}
 use Rattle.rules.specs.declared.Slice.{Slice}
 use Rattle.rules.specs.declared.Answer.{Answer}
-use Rattle.rules.specs.Base.{pick, either, refuses, when, first}
-use Rattle.rules.specs.Records.{pileSize}
+use Rattle.rules.specs.Base.{pick, refuses}
 use Rattle.rules.specs.Limits.{limitOf, tableSize}
 use Rattle.rules.specs.Packed.{rowsOf, pileOf, tableBytes}
-use Rattle.rules.specs.Checks.{longOther, formless, contentChecks, depthOf}
-use Rattle.rules.specs.Ground.{soilAt}
-use Rattle.rules.specs.Answers.{refused, answer, slices}
+use Rattle.rules.specs.Ground.{depthOf, soilAt}
+use Rattle.rules.specs.Checks.{lentChecks}
+use Rattle.rules.specs.Answers.{refused, answer, heldSlices}
 
 -- the answer of rows and a pile, and its slices: from the ground alone
 unfoldable pub answerOf : List Row → Pile → Answer
 answerOf rs p = answer (soilAt rs) (depthOf rs) p
 
-unfoldable pub slicesOfRows : List Row → Pile → List Slice
-slicesOfRows rs p = slices (soilAt rs) (depthOf rs) p
+unfoldable pub heldSlicesOf : List Row → Pile → List Slice
+heldSlicesOf rs p = heldSlices (soilAt rs) (depthOf rs) p
 
 -- the answer and the table worked out afresh, of a log that passes checks 1 to 4 and a pile record of the right length
 unfoldable pub freshAnswer : List ℕ → List ℕ → Answer
 freshAnswer log pile = answerOf (rowsOf log) (pileOf pile)
 
 unfoldable pub freshTable : List ℕ → List ℕ → List ℕ
-freshTable log pile = tableBytes (tableSize (limitOf log)) (slicesOfRows (rowsOf log) (pileOf pile))
-
--- 1: the log has the length of a form, the pile record its own, the table the length that goes with that form
-abbrev pub lengthsWrong : List ℕ → List ℕ → List ℕ → Bool
-lengthsWrong log pile table = either (formless log) (either (longOther pileSize pile) (longOther (tableSize (limitOf log)) table))
-
--- "Checks 1 to 4 are the log checks; 1 looks at every lent piece that the call uses."
-unfoldable pub lentChecks : List ℕ → List ℕ → List ℕ → Refusal
-lentChecks log pile table = first (when (lengthsWrong log pile table) 1) (contentChecks log)
+freshTable log pile = tableBytes (tableSize (limitOf log)) (heldSlicesOf (rowsOf log) (pileOf pile))
 
 unfoldable pub calculated : List ℕ → List ℕ → List ℕ → Answer
 calculated log pile table =

@@ -1,4 +1,6 @@
--- Cases A to L of document 01, "The sheet program and known numbers", and two that its traps ask for: what is right, and what the definitions give.
+-- Cases A to L of document 01, "The sheet program and known numbers", two that its traps ask for, and a deep pile: what is right, and what the
+-- definitions give. Each case has its whole reply: number, row, field, kept and all five numbers. Five numbers that 01 does not print are from
+-- the second program (second/), which works in exact fractions.
 use mathlib.Core.List.{List, [], _∷_, _++_, map}
 use Prim.Native.Nat.{ℕ, _*_}
 use lib.ListN.{take, replicate}
@@ -6,23 +8,22 @@ use Rattle.rules.specs.declared.Row.{Row}
 use Rattle.rules.specs.declared.Pile.{Pile}
 use Rattle.rules.specs.declared.Slice.{Slice}
 use Rattle.rules.specs.declared.Answer.{Answer}
-use Rattle.rules.specs.Records.{sliceSize}
+use Rattle.rules.specs.Records.{sliceSize, sliceFields}
 use Rattle.rules.specs.Limits.{rowLimit, tableSize}
 use Rattle.rules.specs.Packed.{rowsOf, pileOf, logFor, pileBytes}
 use Rattle.rules.specs.Ground.{soilAt}
-use Rattle.rules.specs.Numbers.{resistance}
-use Rattle.rules.specs.Answers.{belowTip}
-use Rattle.rules.specs.Calculation.{calculated, tableAfter, slicesOfRows}
+use Rattle.rules.specs.Numbers.{resistance, belowTip}
+use Rattle.rules.specs.Calculation.{calculated, tableAfter, heldSlicesOf}
 use Rattle.rules.specs.Sheet.{sheetText}
 
--- what the paper gives of a case
+-- what a case gives
 pub data Shown : Type 0 where
-  -- line, tip, shaft, capacity, uplift
+  -- accepted, with line, tip, shaft, capacity, uplift
   five : ℕ → ℕ → ℕ → ℕ → ℕ → Shown
+  -- refused by this number, row 0 and field 0: "zeros for line, tip, shaft, capacity, uplift and kept"
+  refusedBy : ℕ → Shown
   -- R in kPa, accepted
   kPa : ℕ → Shown
-  -- the refusal number alone; 0 is accepted
-  only : ℕ → Shown
   -- the slices: top, thickness, friction, factor
   bars : List (List ℕ) → Shown
   -- the packed log, the pile record, the first slice in the table
@@ -41,10 +42,11 @@ abbrev pub joined : List (List ℕ) → List ℕ
 joined [] = []
 joined (l ∷ ls) = l ++ joined ls
 
+-- a reply: refusal number, row, field; kept; line, tip, shaft, capacity, uplift
 abbrev pub printed : Shown → List ℕ
-printed (five l t s c u) = 0 ∷ l ∷ t ∷ s ∷ c ∷ u ∷ []
+printed (five l t s c u) = 0 ∷ 0 ∷ 0 ∷ 0 ∷ l ∷ t ∷ s ∷ c ∷ u ∷ []
+printed (refusedBy n) = n ∷ 0 ∷ 0 ∷ 0 ∷ 0 ∷ 0 ∷ 0 ∷ 0 ∷ 0 ∷ []
 printed (kPa r) = 0 ∷ r * 1000 ∷ []
-printed (only n) = n ∷ []
 printed (bars l) = 0 ∷ joined l
 printed (logHex l) = l
 printed (pileHex l) = l
@@ -62,23 +64,20 @@ abbrev pub answerIn : List Row → Pile → Answer
 answerIn rs p = calculated (logIn rs) (pileBytes p) blankTable
 
 abbrev pub slicesIn : List Row → Pile → List Slice
-slicesIn rs p = slicesOfRows (rowsOf (logIn rs)) (pileOf (pileBytes p))
+slicesIn rs p = heldSlicesOf (rowsOf (logIn rs)) (pileOf (pileBytes p))
 
 abbrev pub resistanceIn : List Row → Pile → ℕ
 resistanceIn rs p = resistance (pileOf (pileBytes p)) (soilAt (rowsOf (logIn rs)) (belowTip p))
 
-abbrev pub fiveOf : Answer → List ℕ
-fiveOf a = a .refusal .number ∷ a .line ∷ a .tip ∷ a .shaft ∷ a .capacity ∷ a .uplift ∷ []
-
-abbrev pub barOf : Slice → List ℕ
-barOf c = c .top ∷ c .thickness ∷ c .friction ∷ c .factor ∷ []
+abbrev pub replyOf : Answer → List ℕ
+replyOf a = a .refusal .number ∷ a .refusal .row ∷ a .refusal .field ∷ a .kept ∷ a .line ∷ a .tip ∷ a .shaft ∷ a .capacity ∷ a .uplift ∷ []
 
 -- the same, worked out by the definitions, from the packed bytes
 abbrev pub worked : Shown → List Row → Pile → List ℕ
-worked (five l t s c u) rs p = fiveOf (answerIn rs p)
+worked (five l t s c u) rs p = replyOf (answerIn rs p)
+worked (refusedBy n) rs p = replyOf (answerIn rs p)
 worked (kPa r) rs p = answerIn rs p .refusal .number ∷ resistanceIn rs p ∷ []
-worked (only n) rs p = answerIn rs p .refusal .number ∷ []
-worked (bars l) rs p = answerIn rs p .refusal .number ∷ joined (map barOf (slicesIn rs p))
+worked (bars l) rs p = answerIn rs p .refusal .number ∷ joined (map sliceFields (slicesIn rs p))
 worked (logHex l) rs p = logIn rs
 worked (pileHex l) rs p = pileBytes p
 worked (firstSlice l) rs p = take sliceSize (tableAfter (logIn rs) (pileBytes p) blankTable)
@@ -151,20 +150,26 @@ cases =
     case (fineSand 4000 ∷ clay 16000 130) pileA (five 221150 268605 416857 685462 333485) ∷
     -- H: log 15,000 / 14,999
     case (clay 15000 130) pileA (five 212100 268605 399798 668403 319838) ∷
-    case (clay 14999 130) pileA (only 8) ∷
-    -- I: index 0.45, tip 20,000 / 20,001, log 30,000
+    case (clay 15000 130) pileA (bars barsA) ∷
+    case (clay 14999 130) pileA (refusedBy 8) ∷
+    -- I: index 0.45, tip 20,000 / 20,001, log 30,000; five numbers from the second program
     case (clay 30000 145) (circle 1 20000) (kPa 1350) ∷
-    case (clay 30000 145) (circle 1 20001) (only 12) ∷
-    -- J: index 0.40, tip 25,000, log 30,000
+    case (clay 30000 145) (circle 1 20000) (five 337350 381703 635889 1017592 508711) ∷
+    case (clay 30000 145) (circle 1 20001) (refusedBy 12) ∷
+    -- J: index 0.40, tip 25,000, log 30,000; five numbers from the second program
     case (clay 30000 140) (circle 1 25000) (kPa 1725) ∷
-    -- K: clay top under fine sand at 8,000 / 8,001, log 20,000
-    case (fineSand 8000 ∷ clay 12000 130) pileA (only 0) ∷
-    case (fineSand 8001 ∷ clay 11999 130) pileA (only 10) ∷
-    -- L: index 0.60 / 0.61
+    case (clay 30000 140) (circle 1 25000) (five 508560 487731 958612 1446343 766889) ∷
+    -- K: clay top under fine sand at 8,000 / 8,001, log 20,000; five numbers from the second program
+    case (fineSand 8000 ∷ clay 12000 130) pileA (five 238450 268605 449467 718072 359573) ∷
+    case (fineSand 8001 ∷ clay 11999 130) pileA (refusedBy 10) ∷
+    -- L: index 0.60 / 0.61; five numbers from the second program
     case (clay 20000 160) pileA (kPa 600) ∷
-    case (clay 20000 161) pileA (only 11) ∷
+    case (clay 20000 160) pileA (five 89400 169645 168514 338159 134811) ∷
+    case (clay 20000 161) pileA (refusedBy 11) ∷
     -- "Reading the tip soil just above the tip: a tip on a boundary to clay has a seat of 0 mm in the lower soil, and gets 10."
-    case (row 10000 5 130 95 ∷ clay 10000 130) pileA (only 10) ∷
+    case (row 10000 5 130 95 ∷ clay 10000 130) pileA (refusedBy 10) ∷
     -- "Rounding each slice's friction to whole Pa before the sum.": A but index 0.37, head 1,001, tip 10,001, by exact fractions
     case (clay 20000 137) (record { section = 1; a = 600; b = 0; method = 1; head = 1001; tip = 10001; zero = 0 }) (five 171894 238939 324012 562951 259209) ∷
+    -- "below 35 m the 35 m row": A but tip 38,000, log 45,000; from the second program
+    case (clay 45000 130) (circle 1 38000) (five 1214160 808645 2288635 3097280 1830908) ∷
     []

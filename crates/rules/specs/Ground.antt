@@ -2,12 +2,11 @@
 use mathlib.Core.Path.{_≡_}
 use mathlib.Core.Bool.{Bool}
 use mathlib.Core.List.{List, [], _∷_}
-use Prim.Native.Nat.{ℕ, _-_, _<_}
+use Prim.Native.Nat.{ℕ, _+_, _-_, _<_}
 use lib.Dec.{ltb, eqb}
 use Rattle.rules.specs.declared.Row.{Row}
 use Rattle.rules.specs.declared.Soil.{Soil}
 use Rattle.rules.specs.Base.{pick, both}
-use Rattle.rules.specs.Checks.{depthOf}
 
 -- "kind, liquidity index and saturation are all the same"
 unfoldable pub same : Soil → Soil → Bool
@@ -19,6 +18,11 @@ none = record { kind = 0; index = 0; saturation = 0 }
 
 abbrev pub soilOf : Row → Soil
 soilOf r = record { kind = r .kind; index = r .index; saturation = r .saturation }
+
+-- how deep the rows go
+unfoldable pub depthOf : List Row → ℕ
+depthOf [] = 0
+depthOf (r ∷ rs) = r .thickness + depthOf rs
 
 -- the soil of the millimetre from m to m + 1
 unfoldable pub soilAt : List Row → ℕ → Soil

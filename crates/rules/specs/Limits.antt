@@ -1,5 +1,5 @@
--- Counts and lengths of document 01, each named once; the sizes of records are in Records. (Ranges of fields and the numbers of checks 7 to
--- 12 stand with their sentences, but for the deepest tip, on which the places and Bounds hang.)
+-- Counts and lengths of document 01, each named once; the sizes of records are in Records. (Other ranges of fields, and the numbers of checks
+-- 7 to 12, stand with their sentences.)
 use mathlib.Core.List.{List, [], _∷_}
 use Prim.Native.Nat.{ℕ, _+_, _*_}
 use lib.Dec.{eqb}
@@ -42,13 +42,17 @@ limitOf log = formBy logSize forms (length log)
 unfoldable pub tableLimit : List ℕ → ℕ
 tableLimit table = formBy tableSize forms (length table)
 
+-- "thickness, 1 to 60,000": of one row
+abbrev pub thicknessLimit : ℕ
+thicknessLimit = 60000
+
 -- "The rows together are at most 60,000 mm."
 abbrev pub depthLimit : ℕ
 depthLimit = 60000
 
 -- "slices of 2,000 mm"
-abbrev pub sliceLimit : ℕ
-sliceLimit = 2000
+abbrev pub sliceThickness : ℕ
+sliceThickness = 2000
 
 -- "over 40,000"
 abbrev pub tipLimit : ℕ

@@ -1,4 +1,4 @@
--- Friction, factor, and the six roundings.
+-- The slices of a shaft with their friction and factor, what table 7.8 is read to at the tip, and the six roundings.
 use mathlib.Core.Bool.{Bool, true, false}
 use mathlib.Core.List.{List, [], _∷_}
 use Prim.Native.Nat.{ℕ, _+_, _*_, _-_, _/_, max}
@@ -6,23 +6,24 @@ use lib.Dec.{ltb, leb, eqb}
 use Rattle.rules.specs.declared.Soil.{Soil}
 use Rattle.rules.specs.declared.Pile.{Pile}
 use Rattle.rules.specs.declared.Slice.{Slice}
-use Rattle.rules.specs.declared.Place.{Place}
+use Rattle.rules.specs.declared.Spot.{Spot}
 use Rattle.rules.specs.declared.TipRead.{TipRead}
 use Rattle.rules.specs.declared.TipRead.the-variants.{Dashed, Pascals}
 use Rattle.rules.specs.Base.{pick}
-use Rattle.rules.specs.Pieces.{Piece}
-use Rattle.rules.specs.Tables.{placeOf, frictionDepths, tipDepths, frictionAt, tipAt, dashAt}
+use Rattle.rules.specs.Pieces.{Piece, pieces}
+use Rattle.rules.specs.Tables.{spotIn, frictionDepths, frictionRows, tipDepths, tipRows, frictionAt, tipAt, dashAt}
 
 -- kinds 1 to 3
 abbrev pub sand : Soil → Bool
 sand s = leb (s .kind) 3
 
--- "Kinds 1, 2, 3 take columns 0.2, 0.3, 0.4. Kinds 4 to 6 go by liquidity index; below 0.20 the 0.2 column.": hundredths right of column 0.2
-abbrev pub right : Soil → ℕ
-right s = pick (sand s) ((s .kind - 1) * 10) (max 120 (s .index) - 120)
+-- "Kinds 1, 2, 3 take columns 0.2, 0.3, 0.4. Kinds 4 to 6 go by liquidity index; below 0.20 the 0.2 column.": hundredths right of column 0.2;
+-- an index is stored "in hundredths plus 100", so that column stands at 120
+abbrev pub hundredths : Soil → ℕ
+hundredths s = pick (sand s) ((s .kind - 1) * 10) (max 120 (s .index) - 120)
 
 -- "at the slice's mid-depth, which may fall on half a millimetre": in half millimetres. Depths reach the two tables only through
--- midOf and tipOf, and the pile stands in both since a record may say more of depths than its own.
+-- midOf and tipOf; of the pile midOf uses nothing.
 abbrev pub midOf : Pile → ℕ → ℕ → ℕ
 midOf p top thickness = top + top + thickness
 
@@ -30,12 +31,12 @@ midOf p top thickness = top + top + thickness
 abbrev pub tipOf : Pile → ℕ
 tipOf p = p .tip
 
-abbrev pub frictionPlace : Soil → ℕ → Place
-frictionPlace s mid = placeOf frictionDepths 2000 11 7 mid (right s)
+abbrev pub frictionSpot : Soil → ℕ → Spot
+frictionSpot s mid = spotIn frictionDepths frictionRows 2000 mid (hundredths s)
 
 -- in 1/200 Pa, at a mid-depth in half millimetres
 unfoldable pub friction : Soil → ℕ → ℕ
-friction s mid = frictionAt (frictionPlace s mid)
+friction s mid = frictionAt (frictionSpot s mid)
 
 -- "method 1, dry or cased: sand, sandy loam, loam 7, clay 6. Method 2, under water or slurry: all 6.
 -- Method 3, stiff mix vibrated at depth, dry: sand, sandy loam, loam 8, clay 7."; in tenths
@@ -54,22 +55,35 @@ sliceOf p c = record {
   factor = factor (p .method) (c .soil .kind);
 }
 
-unfoldable pub slicesOf : Pile → List Piece → List Slice
-slicesOf p [] = []
-slicesOf p (c ∷ cs) = sliceOf p c ∷ slicesOf p cs
+unfoldable pub sliceEach : Pile → List Piece → List Slice
+sliceEach p [] = []
+sliceEach p (c ∷ cs) = sliceOf p c ∷ sliceEach p cs
+
+-- "the millimetre just below the tip": from the tip depth to the next
+abbrev pub belowTip : Pile → ℕ
+belowTip p = p .tip
+
+-- the slices of the shaft, from head to tip
+abbrev pub shaftSlices : (ℕ → Soil) → Pile → List Slice
+shaftSlices g p = sliceEach p (pieces g (p .head) (p .tip))
+
+-- all thicknesses together
+abbrev pub thicknessSum : List Slice → ℕ
+thicknessSum [] = 0
+thicknessSum (c ∷ cs) = c .thickness + thicknessSum cs
 
 -- "the sum of friction × thickness × factor": in 1/2,000,000 of a newton per metre
-unfoldable pub total : List Slice → ℕ
-total [] = 0
-total (c ∷ cs) = c .friction * c .thickness * c .factor + total cs
+unfoldable pub frictionSum : List Slice → ℕ
+frictionSum [] = 0
+frictionSum (c ∷ cs) = c .friction * c .thickness * c .factor + frictionSum cs
 
 -- "by the liquidity index of the stratum holding the millimetre just below the tip; an index below 0 reads as 0"
-abbrev pub tipPlace : ℕ → ℕ → Place
-tipPlace depth index = placeOf tipDepths 1000 8 5 depth (max 100 index - 100)
+abbrev pub tipSpot : ℕ → ℕ → Spot
+tipSpot depth index = spotIn tipDepths tipRows 1000 depth (max 100 index - 100)
 
 -- "1. R to whole Pa.", or the dash where one would be read with a weight above zero
 unfoldable pub tipRead : ℕ → ℕ → TipRead
-tipRead depth index = pick (dashAt (tipPlace depth index)) Dashed (Pascals (tipAt (tipPlace depth index)))
+tipRead depth index = pick (dashAt (tipSpot depth index)) Dashed (Pascals (tipAt (tipSpot depth index)))
 
 abbrev pub isDash : TipRead → Bool
 isDash Dashed = true
@@ -84,7 +98,7 @@ resistance p s = pascals (tipRead (tipOf p) (s .index))
 
 -- "2. Line: the sum of friction × thickness × factor, to whole N per metre of perimeter."
 abbrev pub lineOf : List Slice → ℕ
-lineOf cs = total cs / 2000000
+lineOf cs = frictionSum cs / 2000000
 
 -- "3. Tip: R × area, to whole N."; "Pi is 3.14159"
 unfoldable pub tipForce : Pile → ℕ → ℕ

@@ -6,7 +6,7 @@ use Rattle.rules.specs.declared.Row.{Row}
 use Rattle.rules.specs.declared.Log.{Log}
 use Rattle.rules.specs.declared.Pile.{Pile}
 use Rattle.rules.specs.declared.Slice.{Slice}
-use Rattle.rules.specs.Widths.{cut, join, bytes}
+use Rattle.rules.specs.Widths.{fieldsOf, join, bytes}
 use Rattle.rules.specs.Records.{rowWidths, rowFrom, rowFields, rowSize, pileWidths, pileFrom, pileFields, pileSize, sliceWidths, sliceFrom, sliceFields, sliceSize}
 use Rattle.rules.specs.Limits.{rowLimit}
 
@@ -16,7 +16,7 @@ numberAt s i n = join (bytes n) (drop i s)
 
 -- the row that begins at byte i
 abbrev pub rowAt : List ℕ → ℕ → Row
-rowAt s i = rowFrom (cut rowWidths (numberAt s i rowSize))
+rowAt s i = rowFrom (fieldsOf rowWidths (numberAt s i rowSize))
 
 -- "top row first": n rows, of which the first begins at byte i
 unfoldable pub rowsFrom : List ℕ → ℕ → ℕ → List Row
@@ -36,21 +36,21 @@ unfoldable pub rowsOf : List ℕ → List Row
 rowsOf s = rowsFrom s 1 (countOf s)
 
 unfoldable pub pileOf : List ℕ → Pile
-pileOf s = pileFrom (cut pileWidths (numberAt s 0 pileSize))
+pileOf s = pileFrom (fieldsOf pileWidths (numberAt s 0 pileSize))
 
 -- place i, counted from 0
 unfoldable pub sliceAt : List ℕ → ℕ → Slice
-sliceAt s i = sliceFrom (cut sliceWidths (numberAt s (i * sliceSize) sliceSize))
+sliceAt s i = sliceFrom (fieldsOf sliceWidths (numberAt s (i * sliceSize) sliceSize))
 
 -- The other way: the bytes of a record
 unfoldable pub rowBytes : Row → List ℕ
-rowBytes r = cut (bytes rowSize) (join rowWidths (rowFields r))
+rowBytes r = fieldsOf (bytes rowSize) (join rowWidths (rowFields r))
 
 unfoldable pub pileBytes : Pile → List ℕ
-pileBytes p = cut (bytes pileSize) (join pileWidths (pileFields p))
+pileBytes p = fieldsOf (bytes pileSize) (join pileWidths (pileFields p))
 
 unfoldable pub sliceBytes : Slice → List ℕ
-sliceBytes c = cut (bytes sliceSize) (join sliceWidths (sliceFields c))
+sliceBytes c = fieldsOf (bytes sliceSize) (join sliceWidths (sliceFields c))
 
 -- a row of zeros: a missing field is 0
 abbrev pub noRow : Row

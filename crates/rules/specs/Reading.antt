@@ -12,11 +12,11 @@ use Rattle.rules.specs.declared.Slice.{Slice}
 use Rattle.rules.specs.declared.LogRead.{LogRead}
 use Rattle.rules.specs.declared.PileRead.{PileRead}
 use Rattle.rules.specs.declared.SliceRead.{SliceRead}
-use Rattle.rules.specs.Base.{pick, both, either, neg, refuses, when, first, allZero}
+use Rattle.rules.specs.Base.{pick, both, either, neg, refuses, when, inOrder, allZero}
 use Rattle.rules.specs.Records.{rowFields, pileFrom, pileSize, sliceFrom}
 use Rattle.rules.specs.Limits.{rowLimit, placesFor, limitOf, tableLimit}
-use Rattle.rules.specs.Packed.{logOf, pileOf, sliceAt, noRow, logBytes, pileBytes}
-use Rattle.rules.specs.Checks.{longOther, formless, countWrong, fieldChecks, firstWrong, pileChecks}
+use Rattle.rules.specs.Packed.{rowsOf, logOf, pileOf, sliceAt, noRow, logBytes, pileBytes}
+use Rattle.rules.specs.Checks.{longOther, formless, countWrong, unusedWrong, firstWrong, sectionCheck, methodWrong}
 
 -- "a refused reading gives zero fields"
 abbrev pub noLog : Log
@@ -30,12 +30,12 @@ noSlice = sliceFrom []
 
 unfoldable pub readLog : List ℕ → LogRead
 readLog s =
-    let r = first (when (formless s) 1) (fieldChecks s) in
+    let r = inOrder (when (formless s) 1 ∷ when (unusedWrong s) 2 ∷ firstWrong 1 (rowsOf s) ∷ []) in
     record { refusal = r; log = pick (refuses r) noLog (logOf s) }
 
 unfoldable pub readPile : List ℕ → PileRead
 readPile s =
-    let r = first (when (longOther pileSize s) 1) (pileChecks (pileOf s)) in
+    let r = inOrder (when (longOther pileSize s) 1 ∷ sectionCheck (pileOf s) ∷ when (methodWrong (pileOf s)) 6 ∷ []) in
     record { refusal = r; pile = pick (refuses r) noPile (pileOf s) }
 
 -- one place of a slice table, counted from 0; past the last: all zero
@@ -57,14 +57,14 @@ unfoldable pub unusedFields : ℕ → Log → Bool
 unusedFields n l = let blank = rowsZero (drop (l .count) (take rowLimit (l .rows))) in either (countWrong n (l .count)) (neg blank)
 
 unfoldable pub packLogCheck : Log → List ℕ → Refusal
-packLogCheck l s = first (when (formless s) 1) (first (when (unusedFields (limitOf s) l) 2) (firstWrong 1 (take (l .count) (l .rows))))
+packLogCheck l s = inOrder (when (formless s) 1 ∷ when (unusedFields (limitOf s) l) 2 ∷ firstWrong 1 (take (l .count) (l .rows)) ∷ [])
 
 -- "a refused packing changes no buffer"
 unfoldable pub packedLog : Log → List ℕ → List ℕ
 packedLog l s = pick (refuses (packLogCheck l s)) s (logBytes (limitOf s) l)
 
 unfoldable pub packPileCheck : Pile → List ℕ → Refusal
-packPileCheck p s = first (when (longOther pileSize s) 1) (pileChecks p)
+packPileCheck p s = inOrder (when (longOther pileSize s) 1 ∷ sectionCheck p ∷ when (methodWrong p) 6 ∷ [])
 
 unfoldable pub packedPile : Pile → List ℕ → List ℕ
 packedPile p s = pick (refuses (packPileCheck p s)) s (pileBytes p)

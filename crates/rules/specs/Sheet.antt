@@ -6,10 +6,10 @@ use lib.ListN.{length, take, drop, replicate}
 use Rattle.rules.specs.declared.Answer.{Answer}
 use Rattle.rules.specs.declared.Slice.{Slice}
 use Rattle.rules.specs.Base.{pick, refuses}
-use Rattle.rules.specs.Records.{pileSize}
+use Rattle.rules.specs.Records.{pileSize, sliceFields}
 use Rattle.rules.specs.Limits.{forms, formBy, logSize, tableSize}
 use Rattle.rules.specs.Packed.{rowsOf, pileOf}
-use Rattle.rules.specs.Calculation.{calculated, slicesOfRows}
+use Rattle.rules.specs.Calculation.{calculated, heldSlicesOf}
 
 -- a number in decimal digits, of which n more may come before the last
 unfoldable pub digitsFrom : ℕ → ℕ → List ℕ
@@ -45,7 +45,7 @@ unfoldable pub answerLine : Answer → List ℕ
 answerLine a = textLine answerWord (a .refusal .number ∷ a .refusal .row ∷ a .refusal .field ∷ [])
 
 unfoldable pub sliceLine : Slice → List ℕ
-sliceLine c = textLine sliceWord (c .top ∷ c .thickness ∷ c .friction ∷ c .factor ∷ [])
+sliceLine c = textLine sliceWord (sliceFields c)
 
 unfoldable pub sliceLines : List Slice → List ℕ
 sliceLines [] = []
@@ -72,4 +72,4 @@ inputPile n input = drop (logSize n) input
 unfoldable pub sheetText : List ℕ → List ℕ
 sheetText input =
     let n = inputLimit input in
-    sheetOf (calculated (inputLog n input) (inputPile n input) (replicate (tableSize n) 0)) (slicesOfRows (rowsOf (inputLog n input)) (pileOf (inputPile n input)))
+    sheetOf (calculated (inputLog n input) (inputPile n input) (replicate (tableSize n) 0)) (heldSlicesOf (rowsOf (inputLog n input)) (pileOf (inputPile n input)))

@@ -2,9 +2,9 @@
 use mathlib.Core.Bool.{Bool, false}
 use mathlib.Core.List.{List, [], _∷_}
 use Prim.Native.Nat.{ℕ, zero, suc, _+_, _*_, _-_, _/_, min, max}
-use lib.ListN.{getD}
+use lib.ListN.{length, getD}
 use lib.Dec.{ltb}
-use Rattle.rules.specs.declared.Place.{Place}
+use Rattle.rules.specs.declared.Spot.{Spot}
 use Rattle.rules.specs.declared.Cell.{Cell}
 use Rattle.rules.specs.declared.Cell.the-variants.{Dash, Kpa}
 use Rattle.rules.specs.Base.{pick, both, either}
@@ -55,8 +55,8 @@ rowFor ds unit (suc n) i d = let on = rowFor ds unit n (i + 1) d in pick (ltb d 
 
 -- Where depth d stands, in parts of which a metre has unit, and q hundredths right of the first column, in a table of
 -- m + 2 rows and c + 2 columns of ten hundredths. "above 1 m depth the 1 m row, below 35 m the 35 m row"; right of the last column, that column.
-unfoldable pub placeOf : List ℕ → ℕ → ℕ → ℕ → ℕ → ℕ → Place
-placeOf ds unit m c d q =
+unfoldable pub spotOf : List ℕ → ℕ → ℕ → ℕ → ℕ → ℕ → Spot
+spotOf ds unit m c d q =
     let clamped = max (getD ds 0 0 * unit) (min d (getD ds (m + 1) 0 * unit)) in
     let i = rowFor ds unit m 0 clamped in
     let right = min q ((c + 1) * 10) in
@@ -69,8 +69,12 @@ placeOf ds unit m c d q =
       across = right - j * 10;
     }
 
+-- in a table of these depths and rows
+abbrev pub spotIn : {A : Type 0} → List ℕ → List (List A) → ℕ → ℕ → ℕ → Spot
+spotIn ds rows unit d q = spotOf ds unit (length ds - 2) (length (getD rows 0 []) - 2) d q
+
 -- "Straight-line interpolation both ways": the four cells weighed, times span times ten
-unfoldable pub weighed : Place → ℕ → ℕ → ℕ → ℕ → ℕ
+unfoldable pub weighed : Spot → ℕ → ℕ → ℕ → ℕ → ℕ
 weighed p a b c d =
     (p .span - p .down) * ((10 - p .across) * a + p .across * b) + p .down * ((10 - p .across) * c + p .across * d)
 
@@ -83,14 +87,14 @@ frictionCell i j = cell 0 frictionRows i j
 abbrev pub tipCell : ℕ → ℕ → Cell
 tipCell i j = cell Dash tipRows i j
 
-abbrev pub frictionWeighed : Place → ℕ
+abbrev pub frictionWeighed : Spot → ℕ
 frictionWeighed p =
     weighed p
     (frictionCell (p .row) (p .column)) (frictionCell (p .row) (p .column + 1))
     (frictionCell (p .row + 1) (p .column)) (frictionCell (p .row + 1) (p .column + 1))
 
 -- "Friction is kept in units of 1/200 Pa, in which it is always whole.": a kPa has 200,000 of them
-unfoldable pub frictionAt : Place → ℕ
+unfoldable pub frictionAt : Spot → ℕ
 frictionAt p = frictionWeighed p * 20000 / p .span
 
 abbrev pub kpaOf : Cell → ℕ
@@ -102,7 +106,7 @@ abbrev pub gap : ℕ → ℕ → Cell → Bool
 gap u v Dash = both (ltb 0 u) (ltb 0 v)
 gap u v (Kpa n) = false
 
-unfoldable pub dashAt : Place → Bool
+unfoldable pub dashAt : Spot → Bool
 dashAt p =
     either (gap (p .span - p .down) (10 - p .across) (tipCell (p .row) (p .column)))
     (either (gap (p .span - p .down) (p .across) (tipCell (p .row) (p .column + 1)))
@@ -110,7 +114,7 @@ dashAt p =
     (gap (p .down) (p .across) (tipCell (p .row + 1) (p .column + 1)))))
 
 -- "R to whole Pa", rounded down once, after both interpolations
-unfoldable pub tipAt : Place → ℕ
+unfoldable pub tipAt : Spot → ℕ
 tipAt p =
     weighed p
     (kpaOf (tipCell (p .row) (p .column))) (kpaOf (tipCell (p .row) (p .column + 1)))

@@ -9,9 +9,9 @@ bitsOf [] = 0
 bitsOf (n ∷ ns) = n + bitsOf ns
 
 -- the fields of these widths that a number holds: the first in its top bits, the last in its lowest; bits above all of them are not looked at
-abbrev pub cut : List ℕ → ℕ → List ℕ
-cut [] w = []
-cut (n ∷ ns) w = w / 2 ^ bitsOf ns % 2 ^ n ∷ cut ns w
+abbrev pub fieldsOf : List ℕ → ℕ → List ℕ
+fieldsOf [] w = []
+fieldsOf (n ∷ ns) w = w / 2 ^ bitsOf ns % 2 ^ n ∷ fieldsOf ns w
 
 -- the one number that fields of these widths make, the first in the top bits; a field of more bits than its place is carried into the field
 -- before, a missing one is 0
@@ -29,3 +29,7 @@ Fits [] [] = Unit {0}
 Fits [] (v ∷ vs) = ⊥
 Fits (n ∷ ns) [] = ⊥
 Fits (n ∷ ns) (v ∷ vs) = (v < 2 ^ n) × Fits ns vs
+
+-- each is a byte
+abbrev pub Bytes : List ℕ → Type 0
+Bytes s = (k : ℕ) → getD s k 0 < 256

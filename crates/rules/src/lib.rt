@@ -8,8 +8,9 @@ pub use limits::LOG_SIZE;
 pub use limits::MORE_PLACES;
 pub use limits::PLACE_LIMIT;
 pub use limits::ROW_LIMIT;
-pub use limits::SLICE_LIMIT;
 pub use limits::TABLE_SIZE;
+pub use limits::THICKEST_SLICE;
+pub use limits::THICKNESS_LIMIT;
 pub use limits::TIP_LIMIT;
 pub use widths::PILE_A;
 pub use widths::PILE_B;
@@ -129,7 +130,7 @@ pub enum TipRead {
 
 // Where a reading stands in a table: row and column of the upper left of four cells, and the weights of the lower row
 // and the right column: down parts of span, and across parts of ten.
-pub struct Place {
+pub struct Spot {
     pub row: usize,
     pub column: usize,
     pub down: u64,

@@ -14,8 +14,11 @@ pub const PLACE_LIMIT: usize = ROW_LIMIT + MORE_PLACES;
 
 pub const TABLE_SIZE: usize = PLACE_LIMIT * SLICE_SIZE;
 
+// The thickest row, and the deepest log.
+pub const THICKNESS_LIMIT: u16 = 60000;
+
 pub const DEPTH_LIMIT: u64 = 60000;
 
-pub const SLICE_LIMIT: u64 = 2000;
+pub const THICKEST_SLICE: u64 = 2000;
 
 pub const TIP_LIMIT: u64 = 40000;

@@ -1,10 +1,10 @@
 // The lines of the sheet, put one after another into a lent buffer.
 //
 // How a sheet is put together: with a buffer of 4,096 zeros,
-//     let mut at = put_answer(buf, a);
+//     let mut at = print_answer(buf, a);
 // and then, where a refuses nothing, for each slice c in order and once at the end
-//     at = put_slice(buf, at, c);
-//     at = put_total(buf, at, a);
+//     at = print_slice(buf, at, c);
+//     at = print_total(buf, at, a);
 // after which buf[..at] is the sheet. Each call hands back the place behind its line, which is at most
 // 40 + 33 * i after i slices, so the room that each line asks for is there: a whole sheet of 83 has at most 2,890 bytes.
 //
@@ -30,7 +30,7 @@ fn put_line(buf: &mut [u8], at: usize, word: &[u8], xs: &[u64]) -> usize
 }
 
 // The answer line, the first: refusal number, row and field.
-pub fn put_answer(buf: &mut [u8], a: Answer) -> usize
+pub fn print_answer(buf: &mut [u8], a: Answer) -> usize
     requires { ⌜ lineRoom ≤ length (now buf) ⌝ }
     ensures { λ r. ⌜ Put (now (buf .entry)) 0 (answerLine a) (now (buf .exit)) r × (r ≤ 40) ⌝ }
 {
@@ -44,7 +44,7 @@ pub fn put_answer(buf: &mut [u8], a: Answer) -> usize
 }
 
 // A slice line: top, thickness, friction and factor.
-pub fn put_slice(buf: &mut [u8], at: usize, c: Slice) -> usize
+pub fn print_slice(buf: &mut [u8], at: usize, c: Slice) -> usize
     requires { ⌜ at + lineRoom ≤ length (now buf) ⌝ }
     ensures { λ r. ⌜ Put (now (buf .entry)) at (sliceLine c) (now (buf .exit)) r × (r ≤ at + 33) ⌝ }
 {
@@ -58,7 +58,7 @@ pub fn put_slice(buf: &mut [u8], at: usize, c: Slice) -> usize
 }
 
 // The total line: line, tip, shaft, capacity and uplift.
-pub fn put_total(buf: &mut [u8], at: usize, a: Answer) -> usize
+pub fn print_total(buf: &mut [u8], at: usize, a: Answer) -> usize
     requires { ⌜ at + lineRoom ≤ length (now buf) ⌝ }
     ensures { λ r. ⌜ Put (now (buf .entry)) at (totalLine a) (now (buf .exit)) r × (r ≤ at + 111) ⌝ }
 {

@@ -15,16 +15,16 @@ use Rattle.rules.specs.Base.{pick, refuses, when}
 use Rattle.rules.specs.Records.{pileSize}
 use Rattle.rules.specs.Limits.{forms, logSize, tableSize, formBy, limitOf, tableLimit}
 use Rattle.rules.specs.Packed.{rowsOf, pileOf}
-use Rattle.rules.specs.Checks.{contentChecks}
-use Rattle.rules.specs.Calculation.{slicesOfRows, freshTable, lengthsWrong, lentChecks, calculated, tableAfter}
+use Rattle.rules.specs.Checks.{lengthsWrong, lentChecks}
+use Rattle.rules.specs.Calculation.{heldSlicesOf, freshTable, calculated, tableAfter}
 use Rattle.rules.specs.Sheet.{inputLimit, inputLog, inputPile, sheetOf, sheetText}
 use Rattle.rules.proofs.Basics.{sure, split}
 use Rattle.rules.proofs.RefusalLaws.{first-off, when-off}
 use Rattle.answer_calculation.proofs.CheckedLaws.{long}
 use Rattle.text_lines.specs.Lines.{Holds}
 use Rattle.text_page.specs.Pages.{pageSize}
-use Rattle.text_page.specs.Places.{TableOf, Shown}
-use Rattle.text_page.proofs.FitLaws.{rows-fit}
+use Rattle.text_page.specs.Places.{TableOf, Printable}
+use Rattle.ground_cuts.proofs.FitLaws.{rows-fit}
 
 -- a log with a pile record behind it: its form is told by the length less that of the record
 behind : (ns : List ℕ) (len : ℕ) → formBy logSize ns (len - pileSize) ≡ formBy (λ n. logSize n + pileSize) ns len
@@ -64,14 +64,14 @@ again (n ∷ ns) len h = go (eqb len (logSize n)) (formBy logSize ns len) (again
         (sure (eqb (tableSize m) (tableSize n)))
 
 module _ (log pile zeros after : List ℕ) (a : Answer) (e : a ≡ calculated log pile zeros) (f : after ≡ tableAfter log pile zeros) (l : length after ≡ length zeros) where
-  held : refuses (lentChecks log pile zeros) ≡ false → TableOf (slicesOfRows (rowsOf log) (pileOf pile)) after
+  held : refuses (lentChecks log pile zeros) ≡ false → TableOf (heldSlicesOf (rowsOf log) (pileOf pile)) after
   unfolding lentChecks tableAfter freshTable limitOf tableLimit
   held h =
-      let g = long log pile zeros (when-off 0 (lengthsWrong log pile zeros) (first-off (when (lengthsWrong log pile zeros) 1) (contentChecks log) h .0)) in
+      let g = long log pile zeros (when-off 0 (lengthsWrong log pile zeros) (first-off (when (lengthsWrong log pile zeros) 1) _ h .0)) in
       let size : length after ≡ tableSize (limitOf log) = l ∙ g .size in
       record { form = rw (size, again forms (length log) (g .form)) (g .form); fit = rows-fit (rowsOf log) pile; bytes = f ∙ (rw (h, size)) }
 
-  pub shown : Shown a after (slicesOfRows (rowsOf log) (pileOf pile))
+  pub shown : Printable a after (heldSlicesOf (rowsOf log) (pileOf pile))
   unfolding calculated
   shown =
       ⊎-elim (λ (h : refuses (lentChecks log pile zeros) ≡ true). inl (ap (λ (x : Answer). refuses (x .refusal)) e ∙ rw (h, h)))
@@ -81,8 +81,8 @@ module _ (log pile zeros after : List ℕ) (a : Answer) (e : a ≡ calculated lo
 -- what is laid out of the calculation on an input, cut as its form says, is the sheet's text
 pub sheet-laid : (input log pile zeros after bytes : List ℕ) (n at : ℕ) (a : Answer) → n ≡ inputLimit input → log ≡ inputLog n input → pile ≡ inputPile n input
     → zeros ≡ replicate (tableSize n) 0 → a ≡ calculated log pile zeros → after ≡ tableAfter log pile zeros → length after ≡ length zeros
-    → ((cs : List Slice) → Shown a after cs → Holds pageSize bytes at (sheetOf a cs)) → Holds pageSize bytes at (sheetText input)
+    → ((cs : List Slice) → Printable a after cs → Holds pageSize bytes at (sheetOf a cs)) → Holds pageSize bytes at (sheetText input)
 unfolding sheetText
 sheet-laid input log pile zeros after bytes n at a told p q z e f l g =
-    let text : sheetText input ≡ sheetOf a (slicesOfRows (rowsOf log) (pileOf pile)) = rw (← told, ← p, ← q, ← z, ← e) in
-    rw text (g (slicesOfRows (rowsOf log) (pileOf pile)) (shown log pile zeros after a e f l))
+    let text : sheetText input ≡ sheetOf a (heldSlicesOf (rowsOf log) (pileOf pile)) = rw (← told, ← p, ← q, ← z, ← e) in
+    rw text (g (heldSlicesOf (rowsOf log) (pileOf pile)) (shown log pile zeros after a e f l))

@@ -13,14 +13,14 @@ use Rattle.rules.specs.declared.Slice.{Slice}
 use Rattle.rules.specs.Base.{refuses}
 use Rattle.text_lines.specs.Lines.{Holds}
 use Rattle.text_page.specs.declared.Page.{Page}
-use Rattle.text_page.specs.Places.{TableOf, Shown}
+use Rattle.text_page.specs.Places.{TableOf, Printable}
 use Rattle.text_page.specs.Pages.{pageSize, pageOf}
 
 pub page-long : (bytes : List ℕ) → bytes ≡ replicate pageSize 0 → length bytes ≡ pageSize
 page-long bytes e = ap length e ∙ length-replicate {A = ℕ} pageSize 0
 
 -- no refusal: the slices that are shown are the table's
-pub shown-table : (a : Answer) (table : List ℕ) (cs : List Slice) → a .refusal .number ≤ 0 → Shown a table cs → TableOf cs table
+pub shown-table : (a : Answer) (table : List ℕ) (cs : List Slice) → a .refusal .number ≤ 0 → Printable a table cs → TableOf cs table
 shown-table a table cs h s = ⊎-elim (λ (r : refuses (a .refusal) ≡ true). absurd (omega (arith, ltb-true 0 (a .refusal .number) r))) (λ t. t) s
 
 -- the first of some zeros

@@ -1,48 +1,29 @@
 -- A place of a table read back: the slice that the table holds there, or none.
-use mathlib.Core.Path.{_≡_, refl, sym, _∙_, ap}
+use mathlib.Core.Path.{_≡_, sym, _∙_, ap}
 use mathlib.Core.Bool.{true, false}
 use mathlib.Core.Logic.{⊎-elim}
-use mathlib.Core.List.{List, [], _∷_, _++_}
-use Prim.Native.Nat.{ℕ, zero, suc, _+_, _*_, _-_, _<_, _≤_}
+use mathlib.Core.List.{List, [], _∷_}
+use Prim.Native.Nat.{ℕ, zero, suc, _*_, _-_, _<_, _≤_}
 use native.Mathlib.Omega.{arith}
 use lib.Dec.{eqb}
 use lib.ListN.{length, getD, replicate, length-append, List·getD-eq-default}
 use borrow.Author.Tests.{lt-ltb, le-ltb, ne-eqb}
 use Rattle.rules.specs.declared.Slice.{Slice}
-use Rattle.rules.specs.Widths.{cut}
-use Rattle.rules.specs.Records.{sliceFrom, sliceSize, sliceWidths}
+use Rattle.rules.specs.Records.{sliceSize}
 use Rattle.rules.specs.Limits.{rowLimit, placeLimit, placesFor, tableSize, tableLimit}
-use Rattle.rules.specs.Packed.{sliceAt, sliceBytes, slicesBytes, tableBytes}
+use Rattle.rules.specs.Packed.{sliceAt, slicesBytes, tableBytes}
+use Rattle.rules.specs.Ranges.{SlicesFit}
 use Rattle.rules.specs.Reading.{noSlice, readSlice}
 use Rattle.rules.proofs.Basics.{sure, split}
 use Rattle.rules.proofs.FormLaws.{form-most, table-long}
-use Rattle.rules.proofs.WidthLaws.{number-part}
-use Rattle.record_bits.proofs.BitLaws.{number-blank}
-use Rattle.record_slices.proofs.RoundTrip.{slice-there}
 use Rattle.record_slice_table.proofs.TableLaws.{bytes-long}
-use Rattle.text_page.specs.Places.{AllFit, TableOf}
+use Rattle.record_slice_table.proofs.RoundTrip.{EachFits, places-there}
+use Rattle.text_page.specs.Places.{TableOf}
 
-zeros : (k i : ℕ) → getD {A = ℕ} (replicate k 0) i 0 ≡ 0
-zeros zero i = refl
-zeros (suc k) zero = refl
-zeros (suc k) (suc i) = zeros k i
-
-abbrev sliceIn : ℕ → Slice
-sliceIn w = sliceFrom (cut sliceWidths w)
-
--- place i + 1 of a table is place i of what stands behind a slice
-slice-behind : (c : Slice) (s : List ℕ) (i : ℕ) → sliceAt (sliceBytes c ++ s) (suc i) ≡ sliceAt s i
-unfolding sliceAt sliceBytes
-slice-behind c s i =
-    let e : suc i * sliceSize ≡ sliceSize + i * sliceSize = omega arith in
-    ap sliceIn (rw (e, ← number-part (sliceBytes c ++ s) sliceSize (i * sliceSize) sliceSize))
-
--- slices packed one after another, and k zeros
-place-back : (cs : List Slice) (k i : ℕ) → AllFit cs → sliceAt (slicesBytes cs ++ replicate k 0) i ≡ getD cs i noSlice
-unfolding slicesBytes sliceBytes sliceAt
-place-back [] k i f = ap sliceIn (number-blank (replicate k 0) 0 (i * sliceSize) sliceSize (λ j h. zeros k j) (omega arith))
-place-back (c ∷ cs) k zero f = slice-there c (slicesBytes cs ++ replicate k 0) (f .1)
-place-back (c ∷ cs) k (suc i) f = slice-behind c (slicesBytes cs ++ replicate k 0) i ∙ place-back cs k i (f .2)
+each-fits : (cs : List Slice) → SlicesFit cs → EachFits cs
+each-fits [] f k h = absurd (omega arith)
+each-fits (c ∷ cs) f zero h = f .1
+each-fits (c ∷ cs) f (suc k) h = each-fits cs (f .2) k (omega arith)
 
 -- what is read at a place, where a form is told and where it is not
 read-past : (t : List ℕ) (i : ℕ) → placesFor (tableLimit t) ≤ i → readSlice t i .slice ≡ noSlice
@@ -64,7 +45,7 @@ place-some t i c e h =
     (λ (g : placesFor (tableLimit t) ≤ i). absurd (h (ap (λ (x : Slice). x .thickness) (e ∙ read-past t i g))))
     (split i (placesFor (tableLimit t)))
 
-slice-some : (cs : List Slice) (i : ℕ) → AllFit cs → i < length cs → 0 < getD cs i noSlice .thickness
+slice-some : (cs : List Slice) (i : ℕ) → SlicesFit cs → i < length cs → 0 < getD cs i noSlice .thickness
 slice-some [] i f h = absurd (omega arith)
 slice-some (c ∷ cs) zero f h = f .0
 slice-some (c ∷ cs) (suc i) f h = slice-some cs i (f .2) (omega arith)
@@ -80,7 +61,7 @@ module _ (cs : List Slice) (t : List ℕ) (g : TableOf cs t) where
     unfolding tableBytes
     place-is =
         e ∙ ⊎-elim (λ (h : i < placesFor (tableLimit t)).
-        read-in t i (g .form) h ∙ ap (λ (x : List ℕ). sliceAt x i) (g .bytes) ∙ place-back cs (length t - length cs * sliceSize) i (g .fit))
+        read-in t i (g .form) h ∙ ap (λ (x : List ℕ). sliceAt x i) (g .bytes) ∙ places-there cs (length t - length cs * sliceSize) i (each-fits cs (g .fit)))
         (λ (h : placesFor (tableLimit t) ≤ i). let k : length cs ≤ i = omega (arith, few) in read-past t i h ∙ sym (List·getD-eq-default cs noSlice k))
         (split i (placesFor (tableLimit t)))
 

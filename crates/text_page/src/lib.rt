@@ -14,7 +14,7 @@ ghost use Rattle.rules.specs.Limits.{rowLimit, logSize, tableSize};
 ghost use Rattle.rules.specs.Sheet.{inputLimit, sheetOf, sheetText};
 ghost use Rattle.rules.specs.declared.Slice.{Slice};
 ghost use Rattle.text_lines.specs.Lines.{Holds};
-ghost use Rattle.text_page.specs.Places.{Shown};
+ghost use Rattle.text_page.specs.Places.{Printable};
 ghost use Rattle.text_page.specs.Pages.{pageSize, pageOf};
 
 const PAGE_SIZE: usize = 4096;
@@ -29,9 +29,9 @@ pub struct Page {
 // thickness, and the total line.
 fn lay_out(bytes: &mut [u8], answer: Answer, table: &[u8]) -> usize
     requires { ⌜ now bytes ≡ replicate pageSize 0 ⌝ }
-    ensures { λ r. ⌜ ((cs : List Slice) → Shown answer (now (table .entry)) cs → Holds pageSize (now (bytes .exit)) r (sheetOf answer cs)) ⌝ }
+    ensures { λ r. ⌜ ((cs : List Slice) → Printable answer (now (table .entry)) cs → Holds pageSize (now (bytes .exit)) r (sheetOf answer cs)) ⌝ }
 {
-    let mut at = text_lines::put_answer(bytes, answer);
+    let mut at = text_lines::print_answer(bytes, answer);
     let refusal = answer.refusal;
     if 0 < refusal.number {
         return at;
@@ -41,9 +41,9 @@ fn lay_out(bytes: &mut [u8], answer: Answer, table: &[u8]) -> usize
         let read = record_slices::read_slice(table, place);
         let slice = read.slice;
         if slice.thickness == 0 {
-            return text_lines::put_total(bytes, at, answer);
+            return text_lines::print_total(bytes, at, answer);
         }
-        at = text_lines::put_slice(bytes, at, slice);
+        at = text_lines::print_slice(bytes, at, slice);
         place += 1;
     }
 }

@@ -6,9 +6,11 @@ use Rattle.answer_numbers.proofs.five_numbers.Tie as tie
 
 returns : tie.Need-returns
 unfolding numbers
-returns c = simp (c .before .before .refuse .ensures, c .before .capacity .ensures, c .uplift .ensures, c .before .before .before .before .tip-force .ensures .0, c .before .before .before .shaft-force .ensures .0)
+returns c =
+    let force = c .before .before .before in
+    simp (c .refuse .ensures, c .before .uplift .ensures, c .before .before .capacity .ensures, force .shaft-force .ensures .0, force .before .tip-force .ensures .0)
 
 pub five-numbers-spec : {M : Type 1} → statement M
 five-numbers-spec =
-    tie.close (tie.spec (λ c κs. search needs) (λ c κs. search needs) (λ c κs. search needs) (λ c. search needs) (λ c κs. search needs)
+    tie.close (tie.spec (λ c κs. search needs) (λ c κs. search needs) (λ c. search needs) (λ c κs. search needs) (λ c κs. search needs)
     (λ c κs. search needs) returns)

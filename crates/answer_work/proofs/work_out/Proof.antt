@@ -2,8 +2,8 @@
 use mathlib.Core.Path.{_≡_}
 use borrow.Author.Needs.{needs}
 use Rattle.rules.specs.Packed.{rowsOf}
-use Rattle.rules.specs.Checks.{depthOf}
-use Rattle.rules.specs.Answers.{early}
+use Rattle.rules.specs.Ground.{depthOf}
+use Rattle.rules.proofs.Groups.{early}
 use Rattle.answer_work.proofs.WorkLaws.{early-is, no-early, past-early, fresh}
 use Rattle.answer_work.proofs.work_out.Statement.{statement}
 use Rattle.answer_work.proofs.work_out.Tie as tie

@@ -5,7 +5,7 @@ use native.Mathlib.Omega.{arith}
 use lib.ListN.{replicate}
 use borrow.Author.Needs.{needs}
 use Rattle.rules.specs.Packed.{rowsOf}
-use Rattle.rules.specs.Checks.{depthOf}
+use Rattle.rules.specs.Ground.{depthOf}
 use Rattle.rules.proofs.AnswerLaws.{Clear, clear}
 use Rattle.answer_numbers.proofs.SideLaws.{sides}
 use Rattle.answer_work.proofs.WorkLaws.{stratum-top, no-tip, no-place, done}

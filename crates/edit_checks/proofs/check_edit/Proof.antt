@@ -1,7 +1,8 @@
 -- The lengths, then the log as it is lent, then the change: each decides where those before it refuse nothing.
 use mathlib.Core.Path.{_≡_, sym, _∙_}
 use mathlib.Core.Bool.{false}
-use Rattle.rules.specs.Edits.{asked, editLengths}
+use Rattle.rules.specs.Edits.{asked}
+use Rattle.rules.specs.Checks.{editLengthsWrong}
 use Rattle.edit_checks.proofs.EditChecks.{form, check-1, check-2, check-13, passed}
 use borrow.Author.Needs.{needs}
 use Rattle.edit_checks.proofs.check_edit.Statement.{statement}
@@ -10,7 +11,7 @@ use Rattle.edit_checks.proofs.check_edit.Tie as tie
 -- check 1 is past
 right-lengths : (c : tie.Else1)
     → let a = c .before .before .before .before .before .before .args in
-    editLengths (asked (a .kind) 0 0 (a .row .now)) (a .log .now) (a .pile .now) (a .table .now) ≡ false
+    editLengthsWrong (asked (a .kind) 0 0 (a .row .now)) (a .log .now) (a .pile .now) (a .table .now) ≡ false
 right-lengths c = sym (c .before .lengths-wrong .ensures) ∙ c .if1 .left
 
 returns : tie.Need-returns

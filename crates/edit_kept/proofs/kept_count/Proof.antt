@@ -3,7 +3,7 @@ use mathlib.Core.Path.{_≡_}
 use Prim.Native.Nat.{_≤_, _-_, _+_}
 use native.Mathlib.Omega.{arith}
 use Rattle.rules.specs.Records.{sliceSize}
-use Rattle.rules.specs.Edits.{kept}
+use Rattle.rules.specs.EditReplies.{kept}
 use Rattle.edit_kept.proofs.KeptLaws.{restSame, keptFrom, kept-begins, byte-same, byte-differs, slice-same, kept-ends}
 use borrow.Author.Needs.{needs}
 use Rattle.edit_kept.proofs.kept_count.Statement.{statement}

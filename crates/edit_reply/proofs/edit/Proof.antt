@@ -2,8 +2,9 @@
 use mathlib.Core.Path.{_≡_}
 use mathlib.Core.Bool.{false}
 use Rattle.rules.specs.Base.{refuses}
-use Rattle.rules.specs.Edits.{asked, editChecks}
-use Rattle.edit_reply.proofs.ReplyLaws.{said, nothing-said, refused-edit, accepted, now-passed, now-deep, now-long, accepted-edit}
+use Rattle.rules.specs.Edits.{asked}
+use Rattle.rules.specs.Checks.{editChecks}
+use Rattle.edit_reply.proofs.ReplyLaws.{said, nothing-said, refused-edit, allowed, now-passed, now-deep, now-long, accepted-edit}
 use borrow.Author.Needs.{needs}
 use Rattle.edit_reply.proofs.edit.Statement.{statement}
 use Rattle.edit_reply.proofs.edit.Tie as tie
@@ -18,7 +19,7 @@ returns : tie.Need-returns
 returns c = refused-edit _ _ _ _ _ _ (said _ _ _ _ _ (c .before .before .before .before .check-edit .ensures)) (c .before .if1 .taken) (c .refused .ensures)
 
 change-requires : tie.Need-change-requires
-change-requires c κs = let a = accepted _ _ _ _ (fair (c .before)) in ((a .passed, a .change), a .row)
+change-requires c κs = let a = allowed _ _ _ _ (fair (c .before)) in ((a .passed, a .change), a .row)
 
 hold-requires : tie.Need-hold-requires
 hold-requires c κs =

@@ -29,11 +29,11 @@ record Turn (log : List ℕ) (p : Pile) (size n : ℕ) (bytes : List ℕ) (used 
   doing : Doing (rowsOf log) p size used at bytes sum
 
 abbrev Inv-loop : tie.InvT-loop
-Inv-loop kpa metres log pile table₀ n tip used₀ total₀ at₀ next₀ row₀ soil₀ bottom₀ table used total at next row soil bottom =
-    Lent kpa metres × Ready log pile (length table₀) × Turn log pile (length table₀) n table used total at next row soil bottom
+Inv-loop kpa metres log pile table₀ n tip used₀ sum₀ at₀ next₀ row₀ soil₀ bottom₀ table used sum at next row soil bottom =
+    Lent kpa metres × Ready log pile (length table₀) × Turn log pile (length table₀) n table used sum at next row soil bottom
 
 abbrev μ-loop : tie.MeasureT-loop
-μ-loop kpa metres log pile table₀ n tip used₀ total₀ at₀ next₀ row₀ soil₀ bottom₀ table used total at next row soil bottom = (tip - at) + (n - next)
+μ-loop kpa metres log pile table₀ n tip used₀ sum₀ at₀ next₀ row₀ soil₀ bottom₀ table used sum at next row soil bottom = (tip - at) + (n - next)
 
 -- the points that are cited often: the start, from before the loop and from its head, and the cleared table, which keeps its length
 abbrev first : tie.After-table Inv-loop μ-loop → tie.Start Inv-loop μ-loop

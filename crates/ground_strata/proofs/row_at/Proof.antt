@@ -5,7 +5,7 @@ use Prim.Native.Nat.{_≤_, _-_}
 use native.Mathlib.Omega.{arith}
 use lib.ListN.{take}
 use Rattle.rules.specs.Packed.{rowsOf}
-use Rattle.rules.specs.Checks.{depthOf}
+use Rattle.rules.specs.Ground.{depthOf}
 use Rattle.rules.proofs.PassedLaws.{Known, known}
 use Rattle.ground_strata.proofs.LogLaws.{Next, row-left, all-taken}
 use Rattle.ground_strata.proofs.row_at.Statement.{statement}

@@ -8,8 +8,8 @@ use Rattle.norm_friction.proofs.friction.Tie as tie
 stand-requires : tie.Need-stand-requires
 stand-requires c κs = search needs
 
-right-requires : tie.Need-right-requires
-right-requires c κs = search needs
+hundredths-requires : tie.Need-hundredths-requires
+hundredths-requires c κs = search needs
 
 column-for-requires : tie.Need-column-for-requires
 column-for-requires c κs = search needs
@@ -48,7 +48,7 @@ returns c =
     let e =
     c .mean .ensures .0
     ∙ friction-is (a .soil) (a .mid) (a .rows .now) _ _ _ _ (o .pre .table) (stand .stand .ensures)
-    (rw (column .before .right .ensures) at (column .column-for .ensures)) (upper .along .ensures .0) (c .before .along2 .ensures .0) in
+    (rw (column .before .hundredths .ensures) at (column .column-for .ensures)) (upper .along .ensures .0) (c .before .along2 .ensures .0) in
     (e, rw e (friction-most (a .soil) (a .mid)))
 
 pub friction-spec : {M : Type 1} → statement M
@@ -56,7 +56,7 @@ friction-spec =
     tie.close
     (tie.spec
     stand-requires
-    right-requires
+    hundredths-requires
     column-for-requires
     mul-along
     index-1-along

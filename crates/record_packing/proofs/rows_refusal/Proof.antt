@@ -5,7 +5,7 @@ use native.Mathlib.Omega.{arith}
 use lib.ListN.{length, take, drop}
 use Rattle.rules.specs.Limits.{rowLimit}
 use Rattle.rules.specs.Checks.{firstWrong}
-use Rattle.record_logs.proofs.RowsLaws.{wrong-here, wrong-below}
+use Rattle.record_log_checks.proofs.RowsLaws.{wrong-here, wrong-below}
 use Rattle.record_packing.proofs.PackLaws.{places, row-of, none-of}
 use borrow.Author.Needs.{needs}
 use Rattle.record_packing.proofs.rows_refusal.Statement.{statement}

@@ -1,7 +1,7 @@
 -- Both checks are asked, and the first that refuses is the answer.
 use mathlib.Core.Path.{ap₂, _∙_}
 use Rattle.rules.specs.Base.{first}
-use Rattle.rules.specs.Checks.{pileChecks}
+use Rattle.rules.proofs.Groups.{pileChecks}
 use borrow.Author.Needs.{needs}
 use Rattle.record_pile_ranges.proofs.pile_refusal.Statement.{statement}
 use Rattle.record_pile_ranges.proofs.pile_refusal.Tie as tie

@@ -8,11 +8,11 @@ use Rattle.record_pile_ranges.proofs.section_refusal.Tie as tie
 
 returns : tie.Need-returns
 unfolding sectionCheck
-returns c = rw (← (c .before .wrong-part .ensures), lt-ltb _ _ (c .if1 .taken))
+returns c = rw (← (c .before .wrong-pile-field .ensures), lt-ltb _ _ (c .if1 .taken))
 
 returns-2 : tie.Need-returns-2
 unfolding sectionCheck
-returns-2 c = c .refuse .ensures ∙ rw (← (c .before .before .wrong-part .ensures), le-ltb _ _ (c .before .if1 .left))
+returns-2 c = c .refuse .ensures ∙ rw (← (c .before .before .wrong-pile-field .ensures), le-ltb _ _ (c .before .if1 .left))
 
 pub section-refusal-spec : {M : Type 1} → statement M
 section-refusal-spec =

@@ -9,7 +9,8 @@ use Rattle.rules.specs.declared.Pile.{Pile}
 use Rattle.rules.specs.Base.{first, when}
 use Rattle.rules.specs.Records.{pileSize}
 use Rattle.rules.specs.Packed.{pileBytes}
-use Rattle.rules.specs.Reading.{packPileCheck, packedPile}
+use Rattle.rules.specs.Reading.{packedPile}
+use Rattle.rules.proofs.Groups.{pack-pile-grouped}
 use Rattle.base_copies.proofs.CopyLaws.{with, with-over}
 use borrow.Author.Needs.{needs}
 use Rattle.record_piles.proofs.pack_pile.Statement.{statement}
@@ -20,18 +21,18 @@ unfolding pileBytes
 over p s v h e = let k : length v ≡ pileSize = ap length e in with-over s v (omega arith) ∙ e
 
 returns : tie.Need-returns
-unfolding packPileCheck packedPile first when
-returns c = let wrong = ne-eqb _ _ (c .before .if1 .taken) in (c .refuse .ensures ∙ rw wrong, rw wrong)
+unfolding packedPile first when
+returns c = let wrong = ne-eqb _ _ (c .before .if1 .taken) in (c .refuse .ensures ∙ rw (pack-pile-grouped _ _, wrong), rw (pack-pile-grouped _ _, wrong))
 
 returns-2 : tie.Need-returns-2
-unfolding packPileCheck packedPile first when
+unfolding packedPile first when
 returns-2 c =
     let checked = c .before .before in
     let long = eq-eqb _ _ (checked .before .if1 .left) in
-    (rw long (checked .pile-refusal .ensures), rw (long, ← (checked .pile-refusal .ensures), lt-ltb _ _ (c .if2 .taken)))
+    (rw (pack-pile-grouped _ _, long) (checked .pile-refusal .ensures), rw (pack-pile-grouped _ _, long, ← (checked .pile-refusal .ensures), lt-ltb _ _ (c .if2 .taken)))
 
 returns-3 : tie.Need-returns-3
-unfolding packPileCheck packedPile first when
+unfolding packedPile first when
 returns-3 c =
     let copied = c .before .before in
     let packed = copied .before .before .before in
@@ -39,8 +40,8 @@ returns-3 c =
     let checked = passed .before .before in
     let start = checked .before in
     let long = eq-eqb _ _ (start .if1 .left) in (
-      rw long (checked .pile-refusal .ensures),
-      copied .copy-in .ensures ∙ over _ _ _ (start .if1 .left) (packed .pile-bytes .ensures) ∙ rw (long, ← (checked .pile-refusal .ensures), le-ltb _ _ (passed .if2 .left)),
+      rw (pack-pile-grouped _ _, long) (checked .pile-refusal .ensures),
+      copied .copy-in .ensures ∙ over _ _ _ (start .if1 .left) (packed .pile-bytes .ensures) ∙ rw (pack-pile-grouped _ _, long, ← (checked .pile-refusal .ensures), le-ltb _ _ (passed .if2 .left)),
     )
 
 pub pack-pile-spec : {M : Type 1} → statement M

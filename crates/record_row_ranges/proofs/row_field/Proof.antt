@@ -21,7 +21,7 @@ unfolding wrongField
 returns-3 c =
     let kind = c .before .before in
     let thick = kind .before .before .before in
-    rw (sym (thick .before .in-range .ensures) ∙ not-false _ (thick .if1 .left), sym (kind .before .in-range2 .ensures) ∙ not-false _ (kind .if2 .left), sym (c .before .index-right .ensures) ∙ not-true _ (c .if3 .taken))
+    rw (sym (thick .before .in-range .ensures) ∙ not-false _ (thick .if1 .left), sym (kind .before .in-range2 .ensures) ∙ not-false _ (kind .if2 .left), sym (c .before .index-in-range .ensures) ∙ not-true _ (c .if3 .taken))
 
 returns-4 : tie.Need-returns-4
 unfolding wrongField
@@ -29,7 +29,7 @@ returns-4 c =
     let index = c .before .before in
     let kind = index .before .before in
     let thick = kind .before .before .before in
-    rw (sym (thick .before .in-range .ensures) ∙ not-false _ (thick .if1 .left), sym (kind .before .in-range2 .ensures) ∙ not-false _ (kind .if2 .left), sym (index .before .index-right .ensures) ∙ not-false _ (index .if3 .left), lt-leb _ _ (c .if4 .taken))
+    rw (sym (thick .before .in-range .ensures) ∙ not-false _ (thick .if1 .left), sym (kind .before .in-range2 .ensures) ∙ not-false _ (kind .if2 .left), sym (index .before .index-in-range .ensures) ∙ not-false _ (index .if3 .left), lt-leb _ _ (c .if4 .taken))
 
 returns-5 : tie.Need-returns-5
 unfolding wrongField
@@ -38,7 +38,7 @@ returns-5 c =
     let index = saturation .before .before in
     let kind = index .before .before in
     let thick = kind .before .before .before in
-    rw (sym (thick .before .in-range .ensures) ∙ not-false _ (thick .if1 .left), sym (kind .before .in-range2 .ensures) ∙ not-false _ (kind .if2 .left), sym (index .before .index-right .ensures) ∙ not-false _ (index .if3 .left), le-leb _ _ (saturation .if4 .left), ne-eqb _ _ (c .if5 .taken))
+    rw (sym (thick .before .in-range .ensures) ∙ not-false _ (thick .if1 .left), sym (kind .before .in-range2 .ensures) ∙ not-false _ (kind .if2 .left), sym (index .before .index-in-range .ensures) ∙ not-false _ (index .if3 .left), le-leb _ _ (saturation .if4 .left), ne-eqb _ _ (c .if5 .taken))
 
 returns-6 : tie.Need-returns-6
 unfolding wrongField
@@ -47,7 +47,7 @@ returns-6 c =
     let index = saturation .before .before in
     let kind = index .before .before in
     let thick = kind .before .before .before in
-    rw (sym (thick .before .in-range .ensures) ∙ not-false _ (thick .if1 .left), sym (kind .before .in-range2 .ensures) ∙ not-false _ (kind .if2 .left), sym (index .before .index-right .ensures) ∙ not-false _ (index .if3 .left), le-leb _ _ (saturation .if4 .left), eq-eqb _ _ (c .if5 .left))
+    rw (sym (thick .before .in-range .ensures) ∙ not-false _ (thick .if1 .left), sym (kind .before .in-range2 .ensures) ∙ not-false _ (kind .if2 .left), sym (index .before .index-in-range .ensures) ∙ not-false _ (index .if3 .left), le-leb _ _ (saturation .if4 .left), eq-eqb _ _ (c .if5 .left))
 
 pub row-field-spec : {M : Type 1} → statement M
 row-field-spec =

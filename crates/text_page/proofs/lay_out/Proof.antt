@@ -29,8 +29,8 @@ Inv-loop bytes₀ answer table at₀ place₀ bytes at place =
 abbrev μ-loop : tie.MeasureT-loop
 μ-loop bytes₀ answer table at₀ place₀ bytes at place = placeLimit + 1 - place
 
-put-answer-requires : tie.Need-put-answer-requires Inv-loop μ-loop
-put-answer-requires c κs = omega (arith, page-long _ (c .before .before .before .pre))
+print-answer-requires : tie.Need-print-answer-requires Inv-loop μ-loop
+print-answer-requires c κs = omega (arith, page-long _ (c .before .before .before .pre))
 
 same-length : tie.Need-same-length Inv-loop μ-loop
 same-length c = search needs
@@ -39,30 +39,30 @@ returns : tie.Need-returns Inv-loop μ-loop
 returns c =
     let line = c .before .before .before .before .before in
     let o = line .before .before .before .before in
-    λ cs t. sheet-refused (o .args .answer) cs (lt-ltb 0 _ (c .if1 .taken)) (sheet-begun (o .args .answer) cs pageSize (o .pre) (line .put-answer .ensures .0) (omega arith))
+    λ cs t. sheet-refused (o .args .answer) cs (lt-ltb 0 _ (c .if1 .taken)) (sheet-begun (o .args .answer) cs pageSize (o .pre) (line .print-answer .ensures .0) (omega arith))
 
 loop-holds : tie.Need-loop-holds Inv-loop μ-loop
 loop-holds c =
     let line = c .before .before .before .before .before in
     let o = line .before .before .before .before in (
       omega arith,
-      line .put-answer .kept .0 ∙ page-long _ (o .pre),
+      line .print-answer .kept .0 ∙ page-long _ (o .pre),
       omega arith,
-      λ cs t. sheet-begun (o .args .answer) cs pageSize (o .pre) (line .put-answer .ensures .0) (omega arith),
+      λ cs t. sheet-begun (o .args .answer) cs pageSize (o .pre) (line .print-answer .ensures .0) (omega arith),
     )
 
 read-slice-requires : tie.Need-read-slice-requires Inv-loop μ-loop
 read-slice-requires c κs = search needs
 
-put-total-requires : tie.Need-put-total-requires Inv-loop μ-loop
-put-total-requires c κs = search needs
+print-total-requires : tie.Need-print-total-requires Inv-loop μ-loop
+print-total-requires c κs = search needs
 
 same-length-2 : tie.Need-same-length-2 Inv-loop μ-loop
 same-length-2 c =
     let line = c .before .before in
     let turn = line .before .before .before .before .before .before in
     let o = turn .before .before .before .before .before .before .before .before .before .before in
-    line .put-total .kept .0 ∙ turn .loop .inv .1 ∙ sym (page-long _ (o .pre))
+    line .print-total .kept .0 ∙ turn .loop .inv .1 ∙ sym (page-long _ (o .pre))
 
 returns-2 : tie.Need-returns-2 Inv-loop μ-loop
 returns-2 c =
@@ -76,10 +76,10 @@ returns-2 c =
     λ cs s.
     let t = shown-table a _ cs (turn .before .if1 .left) s in
     sheet-ended a cs (turn .loop .place) (slice-none cs _ t (turn .loop .place) _ e (test .if2 .taken)) (le-ltb 0 _ (turn .before .if1 .left)) (turn .loop .inv .3 cs t)
-    (line .put-total .ensures .0) (omega (arith, turn .loop .inv .0, turn .loop .inv .2, line .put-total .ensures .1))
+    (line .print-total .ensures .0) (omega (arith, turn .loop .inv .0, turn .loop .inv .2, line .print-total .ensures .1))
 
-put-slice-requires : tie.Need-put-slice-requires Inv-loop μ-loop
-put-slice-requires c κs = search needs
+print-slice-requires : tie.Need-print-slice-requires Inv-loop μ-loop
+print-slice-requires c κs = search needs
 
 add-place : tie.Need-add-place Inv-loop μ-loop
 add-place c = search needs
@@ -100,11 +100,11 @@ loop-again c =
     let e = ap (λ (x : SliceRead). x .slice) (read .read-slice .ensures) in
     let k : l .place < placeLimit = place-some _ (l .place) _ e (test .if2 .left) in (
       omega arith,
-      line .put-slice .kept .0 ∙ l .inv .1,
-      omega (arith, l .inv .2, line .put-slice .ensures .1),
+      line .print-slice .kept .0 ∙ l .inv .1,
+      omega (arith, l .inv .2, line .print-slice .ensures .1),
       λ cs t.
           sheet-more (o .args .answer) cs (l .place) noSlice (slice-here cs _ t (l .place) _ e (test .if2 .left)) (l .inv .3 cs t)
-          (rw (place-is cs _ t (l .place) _ e) at (line .put-slice .ensures .0)) (omega (arith, l .inv .2, line .put-slice .ensures .1)),
+          (rw (place-is cs _ t (l .place) _ e) at (line .print-slice .ensures .0)) (omega (arith, l .inv .2, line .print-slice .ensures .1)),
     )
 
 pub lay-out-spec : {M : Type 1} → statement M
@@ -113,15 +113,15 @@ lay-out-spec =
     (tie.spec
     Inv-loop
     μ-loop
-    put-answer-requires
+    print-answer-requires
     same-length
     returns
     loop-holds
     read-slice-requires
-    put-total-requires
+    print-total-requires
     same-length-2
     returns-2
-    put-slice-requires
+    print-slice-requires
     add-place
     loop-less
     loop-again)

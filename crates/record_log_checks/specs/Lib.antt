@@ -1,0 +1,2 @@
+-- What checking a log comes to, with the depth of its rows.
+pub mod Checks

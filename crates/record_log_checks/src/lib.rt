@@ -1,0 +1,140 @@
+// Checks 2 to 4 of a log: its count, its unused places, its rows and their depth.
+use record_lengths::row_limit;
+use record_row_ranges::row_field;
+use record_rows::row_inside;
+use rules::DEPTH_LIMIT;
+use rules::ROW_SIZE;
+use rules::Refusal;
+ghost use mathlib.Core.Path.{_≡_};
+ghost use Prim.Native.Nat.{_+_, _*_, _^_, _<_, _≤_};
+ghost use lib.ListN.{length, drop};
+ghost use Rattle.rules.specs.Base as base;
+ghost use Rattle.rules.specs.Base.{neg, allZero};
+ghost use Rattle.rules.specs.Records.{rowSize};
+ghost use Rattle.rules.specs.Limits.{limitOf};
+ghost use Rattle.rules.specs.Checks.{countWrong, unusedWrong};
+ghost use Rattle.record_log_checks.specs.Checks.{rowsChecked, fieldsChecked, contentChecked};
+
+// What checks of a log found, and how deep its rows go.
+pub struct Checked {
+    pub refusal: Refusal,
+    pub depth: u64,
+}
+
+// Nothing but a refusal's number, 0 where nothing is refused, and the depth.
+fn found(number: u32, depth: u64) -> Checked
+    ensures { λ c. ⌜ c ≡ record { refusal = base.refuse number; depth = depth } ⌝ }
+{
+    Checked {
+        refusal: Refusal {
+            number: number,
+            row: 0,
+            field: 0,
+        },
+        depth: depth,
+    }
+}
+
+// Refusal 3 of a row, counted from 0, whose field f is out of range.
+pub fn row_refusal(i: usize, f: u32) -> Refusal
+    requires { ⌜ i < 2 ^ 8 ⌝ }
+    ensures { λ r. ⌜ r ≡ record { number = 3; row = i + 1; field = f } ⌝ }
+{
+    Refusal {
+        number: 3,
+        row: i as u32 + 1,
+        field: f,
+    }
+}
+
+// Whether any byte from `from` on is not zero: they are joined bit by bit, with no test in between.
+fn any_from(s: &[u8], from: usize) -> bool
+    ensures { λ r. ⌜ r ≡ neg (allZero (drop from (now (s .entry)))) ⌝ }
+{
+    let mut any: u8 = 0;
+    let mut i = from;
+    while i < s.len() {
+        any = any | s[i];
+        i += 1;
+    }
+    any != 0
+}
+
+pub fn count_wrong(limit: usize, n: u8) -> bool
+    ensures { λ r. ⌜ r ≡ countWrong limit n ⌝ }
+{
+    if n == 0 {
+        return true;
+    }
+    limit < n as usize
+}
+
+// Where n rows end and the unused places begin.
+fn rows_end(n: u8) -> usize
+    ensures { λ r. ⌜ r ≡ 1 + n * rowSize ⌝ }
+{
+    1 + n as usize * ROW_SIZE
+}
+
+// Check 2.
+pub fn unused_wrong(s: &[u8]) -> bool
+    requires { ⌜ 0 < limitOf (now s) ⌝ }
+    ensures { λ r. ⌜ r ≡ unusedWrong (now (s .entry)) ⌝ }
+{
+    let n = s[0];
+    if count_wrong(row_limit(s.len()), n) {
+        return true;
+    }
+    any_from(s, rows_end(n))
+}
+
+// Check 3 of the first n rows, and their thicknesses added up.
+fn check_rows(s: &[u8], n: u8) -> Checked
+    requires { ⌜ 1 + n * rowSize ≤ length (now s) ⌝ }
+    ensures { λ r. ⌜ r ≡ rowsChecked (now (s .entry)) n ⌝ }
+{
+    let mut depth: u64 = 0;
+    let mut i: usize = 0;
+    let end = n as usize;
+    while i < end {
+        let row = row_inside(s, 1 + i * ROW_SIZE);
+        let f = row_field(row);
+        if 0 < f {
+            let r = row_refusal(i, f);
+            return Checked {
+                refusal: r,
+                depth: 0,
+            };
+        }
+        depth += row.thickness as u64;
+        i += 1;
+    }
+    found(0, depth)
+}
+
+// Checks 2 and 3.
+fn check_fields(s: &[u8]) -> Checked
+    requires { ⌜ 0 < limitOf (now s) ⌝ }
+    ensures { λ r. ⌜ r ≡ fieldsChecked (now (s .entry)) ⌝ }
+{
+    if unused_wrong(s) {
+        return found(2, 0);
+    }
+    check_rows(s, s[0])
+}
+
+// Checks 2 to 4. Makes no Log: the rows are read from the bytes again where they are needed.
+pub fn check_content(s: &[u8]) -> Checked
+    requires { ⌜ 0 < limitOf (now s) ⌝ }
+    ensures { λ r. ⌜ r ≡ contentChecked (now (s .entry)) ⌝ }
+{
+    let c = check_fields(s);
+    let r = c.refusal;
+    if 0 < r.number {
+        return c;
+    }
+    if DEPTH_LIMIT < c.depth {
+        return found(4, 0);
+    }
+    c
+}
