@@ -44,8 +44,8 @@ fn split(log: &mut [u8], k: u32, x: u32)
     ensures { λ _. ⌜ now (log .exit) ≡ splitLog k x (now (log .entry)) ⌝ }
 {
     let row = edit_naming::named_row(log, k);
-    let upper = record_rows::row_bytes(part(x as u16, row));
-    let lower = record_rows::row_bytes(part(row.thickness - x as u16, row));
+    let upper = record_row_bytes::row_bytes(part(x as u16, row));
+    let lower = record_row_bytes::row_bytes(part(row.thickness - x as u16, row));
     edit_moves::split_row(log, k as usize, upper, lower);
 }
 

@@ -1,5 +1,2 @@
--- Laws of the reply, and the promises about edits: kept, one edit, a run.
+-- Laws of the reply.
 pub mod ReplyLaws
-pub mod TwoTables
-pub mod Promise
-pub mod AfterRun

@@ -7,7 +7,7 @@ use record_log_checks::count_wrong;
 use record_log_checks::row_refusal;
 use record_row_ranges::row_field;
 use record_row_ranges::row_zero;
-use record_rows::row_bytes;
+use record_row_bytes::row_bytes;
 use rules::Log;
 use rules::ROW_LIMIT;
 use rules::ROW_SIZE;

@@ -1,9 +1,7 @@
-// A row of a log: its five fields from its five bytes and back.
+// A row of a log read: its five fields from its five bytes.
 use record_bits::Cursor;
 use record_bits::WORD_BITS;
-use record_bits::put_bits;
 use record_bits::take_bits;
-use record_words::bytes_of;
 use record_words::five_of;
 use record_words::whole_five;
 use rules::ROW_INDEX;
@@ -18,7 +16,7 @@ ghost use Prim.Native.Nat.{_+_, _≤_};
 ghost use lib.ListN.{length};
 ghost use Rattle.rules.specs.Widths.{fieldsOf};
 ghost use Rattle.rules.specs.Records.{rowFrom, rowSize, rowWidths};
-ghost use Rattle.rules.specs.Packed.{rowAt, noRow, rowBytes};
+ghost use Rattle.rules.specs.Packed.{rowAt, noRow};
 
 // Where the five bytes of a row begin in a word.
 const ROW_START: usize = WORD_BITS - ROW_SIZE * 8;
@@ -73,21 +71,4 @@ pub fn row_inside(s: &[u8], i: usize) -> Row
     ensures { λ r. ⌜ r ≡ rowAt (now (s .entry)) i ⌝ }
 {
     row_of(whole_five(&s[i..]))
-}
-
-// The five bytes of a row; a field of more bits than its place is carried into the field before.
-pub fn row_bytes(r: Row) -> [u8; ROW_SIZE]
-    ensures { λ b. ⌜ b ≡ rowBytes r ⌝ }
-{
-    let start = Cursor {
-        word: 0,
-        at: ROW_START,
-    };
-    let thickness = put_bits(start, r.thickness as u64, ROW_THICKNESS);
-    let kind = put_bits(thickness, r.kind as u64, ROW_KIND);
-    let index = put_bits(kind, r.index as u64, ROW_INDEX);
-    let saturation = put_bits(index, r.saturation as u64, ROW_SATURATION);
-    let zero = put_bits(saturation, r.zero as u64, ROW_ZERO);
-    let b = bytes_of(zero.word);
-    [b[3], b[4], b[5], b[6], b[7]]
 }

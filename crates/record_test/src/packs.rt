@@ -36,6 +36,6 @@ pub(crate) fn pack_slice(given: &[u8]) {
 pub(crate) fn pack_row(given: &[u8]) {
     io::write_all(STDOUT_FILENO, b"packrow");
     let r = row_given(given, 0);
-    bytes(&record_rows::row_bytes(r));
+    bytes(&record_row_bytes::row_bytes(r));
     word(record_row_ranges::row_field(r));
 }

@@ -48,5 +48,5 @@ pub(crate) fn read_row(s: &[u8], i: u16) {
     let r = record_rows::read_row(s, i as usize);
     row(r);
     word(record_row_ranges::row_field(r));
-    bytes(&record_rows::row_bytes(r));
+    bytes(&record_row_bytes::row_bytes(r));
 }

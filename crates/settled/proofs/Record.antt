@@ -7,6 +7,7 @@ use Rattle.record_bits.proofs as record-bits
 use Rattle.record_words.proofs as record-words
 use Rattle.record_row_ranges.proofs as record-row-ranges
 use Rattle.record_pile_ranges.proofs as record-pile-ranges
+use Rattle.record_row_bytes.proofs as record-row-bytes
 use Rattle.record_rows.proofs as record-rows
 use Rattle.record_lengths.proofs as record-lengths
 use Rattle.record_log_checks.proofs as record-log-checks
@@ -58,7 +59,7 @@ read-row _ _ _ h g = cc
 pub row-inside : Settled record-rows.row_inside.Kinds.ps record-rows.row_inside.Kinds.r record-rows.row_inside.Reads.Pre record-rows.row_inside.Reads.Learnt
 row-inside _ _ _ h g = cc
 
-pub row-bytes : Settled record-rows.row_bytes.Kinds.ps record-rows.row_bytes.Kinds.r record-rows.row_bytes.Reads.Pre record-rows.row_bytes.Reads.Learnt
+pub row-bytes : Settled record-row-bytes.row_bytes.Kinds.ps record-row-bytes.row_bytes.Kinds.r record-row-bytes.row_bytes.Reads.Pre record-row-bytes.row_bytes.Reads.Learnt
 row-bytes _ _ _ h g = cc
 
 pub row-limit : Settled record-lengths.row_limit.Kinds.ps record-lengths.row_limit.Kinds.r record-lengths.row_limit.Reads.Pre record-lengths.row_limit.Reads.Learnt

@@ -21,8 +21,8 @@ use Rattle.rules.proofs.PassedLaws.{known}
 use Rattle.rules.proofs.RunLaws.{refused-still, held-is}
 use Rattle.record_slice_table.proofs.TableLaws.{filled-long}
 use Rattle.answer_work.proofs.SliceLaws.{few-slices}
 use Rattle.edit_reply.proofs.ReplyLaws.{Allowed, allowed}
-use Rattle.edit_reply.proofs.Promise.{passes}
+use Rattle.promises.proofs.AcceptedEdits.{passes}
 
 abbrev refusesHere : Call → Desk → Bool
 refusesHere c d = refuses (editChecks (c .edit) (d .log) (c .pile) (d .table))

@@ -4,8 +4,8 @@ use native.Mathlib.Nat.{mul-one}
 use Rattle.rules.specs.Packed.{rowBytes}
 use Rattle.record_bits.proofs.FieldLaws.{end, _then_, bytes-put}
 use borrow.Author.Needs.{needs}
-use Rattle.record_rows.proofs.row_bytes.Statement.{statement}
-use Rattle.record_rows.proofs.row_bytes.Tie as tie
+use Rattle.record_row_bytes.proofs.row_bytes.Statement.{statement}
+use Rattle.record_row_bytes.proofs.row_bytes.Tie as tie
 
 returns : tie.Need-returns
 unfolding rowBytes

@@ -21,8 +21,8 @@ use Rattle.rules.proofs.RefusalLaws.{first-off, first-none, when-off, when-fals
 use Rattle.rules.proofs.AnswerLaws.{only-millimetres, refused-ground}
 use Rattle.rules.proofs.EditLaws.{Standing, replaces, inserts, removes, splits, standing, free, split-same-ground}
 use Rattle.answer_calculation.proofs.CheckedLaws.{long}
 use Rattle.edit_reply.proofs.ReplyLaws.{allowed}
-use Rattle.edit_reply.proofs.TwoTables.{kept-is}
+use Rattle.promises.proofs.TwoTables.{kept-is}
 
 -- one table goes with one form: that of the log that is lent, and of the log that an accepted edit leaves
 lent-form : (log pile table : List ℕ) → LentPassed log pile table → length table ≡ tableSize (limitOf log)

@@ -45,8 +45,8 @@ use Rattle.rules.proofs.RunLaws as RunLaws
 use Rattle.record_packing.proofs.RoundTrip as LogTrip
 use Rattle.record_piles.proofs.RoundTrip as PileTrip
 use Rattle.record_slice_table.proofs.RoundTrip as SliceTrip
-use Rattle.edit_reply.proofs.Promise as Edits
-use Rattle.edit_reply.proofs.AfterRun as Run
+use Rattle.promises.proofs.AcceptedEdits as Edits
+use Rattle.promises.proofs.AfterRun as Run
 
 -- Demand 1. "Every log, pile record, slice table and edit, however damaged, gets a reply": no contract of the door has a condition.
 

@@ -1,2 +1,0 @@
--- The promises.
-pub mod Promises
