@@ -1,4 +1,4 @@
-//! Links libpsamathyr.a: from the folder PSAMATHYR_LIB, or from target/staticlib of this repository.
+//! Links libpsamathyr.a: from the folder PSAMATHYR_LIB, or from the target machine's folder in target/lib of this repository.
 
 use std::env;
 use std::path::PathBuf;
@@ -8,13 +8,14 @@ fn main() {
     let folder = match env::var_os("PSAMATHYR_LIB") {
         Some(folder) => PathBuf::from(folder),
         None => PathBuf::from(env::var_os("CARGO_MANIFEST_DIR").expect("package folder"))
-            .join("../../target/staticlib"),
+            .join("../../target/lib")
+            .join(env::var("CARGO_CFG_TARGET_ARCH").expect("target machine") + "-linux"),
     };
     let library = folder.join("libpsamathyr.a");
     if !library.is_file() {
         // What is only checked needs no library.
         println!(
-            "cargo:warning=no {}: `rt staticlib psamathyr` makes it",
+            "cargo:warning=no {}: tools/libraries makes it",
             library.display()
         );
     }

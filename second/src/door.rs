@@ -2,6 +2,7 @@
 
 #![forbid(unsafe_code)]
 
+use crate::record::Call;
 use crate::{Answer, Log, Pile, Row, Slice, ROWS};
 use psamathyr_door as door;
 
@@ -46,7 +47,10 @@ impl From<Row> for door::Row {
 }
 
 pub fn calculate(log: &[u8], pile: &[u8], table: &mut [u8]) -> Answer {
-    door::calculate(log, pile, table).into()
+    let call = Call::of(1).piece(log).piece(pile).piece(table);
+    let answer = door::calculate(log, pile, table).into();
+    call.answer(&answer).piece(table).made();
+    answer
 }
 
 pub fn edit(
@@ -58,7 +62,15 @@ pub fn edit(
     x: u32,
     row: &[u8],
 ) -> Answer {
-    door::edit(log, pile, table, kind, k, x, row).into()
+    let call = edit_call(log, pile, table, [kind, k, x], row);
+    let answer = door::edit(log, pile, table, kind, k, x, row).into();
+    call.answer(&answer).piece(log).piece(table).made();
+    answer
+}
+
+fn edit_call(log: &[u8], pile: &[u8], table: &[u8], numbers: [u32; 3], row: &[u8]) -> Call {
+    let pieces = Call::of(2).piece(log).piece(pile).piece(table);
+    numbers.into_iter().fold(pieces, Call::number).piece(row)
 }
 
 /// An edit that hands over no row at all: a null pointer of length 0.
@@ -70,7 +82,10 @@ pub fn edit_without_row(
     k: u32,
     x: u32,
 ) -> Answer {
-    door::edit_without_row(log, pile, table, kind, k, x).into()
+    let call = edit_call(log, pile, table, [kind, k, x], &[]);
+    let answer = door::edit_without_row(log, pile, table, kind, k, x).into();
+    call.answer(&answer).piece(log).piece(table).made();
+    answer
 }
 
 pub fn read_log(log: &[u8]) -> Log {
@@ -79,16 +94,19 @@ pub fn read_log(log: &[u8]) -> Log {
     for (row, from) in rows.iter_mut().zip(read.rows) {
         *row = from.into();
     }
-    Log {
+    let read = Log {
         refusal: read.refusal,
         row: read.row,
         field: read.field,
         count: read.count,
         rows,
-    }
+    };
+    Call::of(3).piece(log).log(&read).made();
+    read
 }
 
 pub fn pack_log(fields: &Log, log: &mut [u8]) -> Answer {
+    let call = Call::of(4).log(fields).piece(log);
     let fields = door::Log {
         refusal: fields.refusal,
         row: fields.row,
@@ -96,12 +114,14 @@ pub fn pack_log(fields: &Log, log: &mut [u8]) -> Answer {
         count: fields.count,
         rows: fields.rows.map(Into::into),
     };
-    door::pack_log(fields, log).into()
+    let answer = door::pack_log(fields, log).into();
+    call.answer(&answer).piece(log).made();
+    answer
 }
 
 pub fn read_pile(pile: &[u8]) -> Pile {
     let read = door::read_pile(pile);
-    Pile {
+    let read = Pile {
         refusal: read.refusal,
         row: read.row,
         field: read.field,
@@ -112,10 +132,13 @@ pub fn read_pile(pile: &[u8]) -> Pile {
         head: read.head,
         tip: read.tip,
         zero: read.zero,
-    }
+    };
+    Call::of(5).piece(pile).pile(&read).made();
+    read
 }
 
 pub fn pack_pile(fields: &Pile, pile: &mut [u8]) -> Answer {
+    let call = Call::of(6).pile(fields).piece(pile);
     let fields = door::Pile {
         refusal: fields.refusal,
         row: fields.row,
@@ -128,16 +151,20 @@ pub fn pack_pile(fields: &Pile, pile: &mut [u8]) -> Answer {
         tip: fields.tip,
         zero: fields.zero,
     };
-    door::pack_pile(fields, pile).into()
+    let answer = door::pack_pile(fields, pile).into();
+    call.answer(&answer).piece(pile).made();
+    answer
 }
 
 pub fn read_slice(table: &[u8], place: u32) -> Slice {
     let read = door::read_slice(table, place);
-    Slice {
+    let read = Slice {
         refusal: read.refusal,
         top: read.top,
         thickness: read.thickness,
         friction: read.friction,
         factor: read.factor,
-    }
+    };
+    Call::of(7).piece(table).number(place).slice(&read).made();
+    read
 }

@@ -16,6 +16,8 @@ mod tables;
 
 #[cfg(feature = "door")]
 pub mod door;
+#[cfg(feature = "door")]
+pub mod record;
 
 #[cfg(test)]
 mod tests;

@@ -18,15 +18,17 @@ mod compare {
 
 use compare::meter::Meter;
 use compare::{known, logs, records, seeded};
+use second::record;
 use std::process::ExitCode;
 
 const USAGE: &str =
-    "usage: compare [--seed N] [--quick] [--only edits|others] [--null-row] [--trace]
+    "usage: compare [--seed N] [--quick] [--only edits|others] [--null-row] [--trace] [--record FILE]
   --seed N    another seed for the random cases
   --quick     a tenth of the random cases
   --only W    the runs of edits alone, or all others: two halves that can run side by side
   --null-row  also edits that hand over a null pointer where no row is used
-  --trace     prints every call to standard error before it is made";
+  --trace     prints every call to standard error before it is made
+  --record F  writes every call, with what it was lent and what it left, to this file";
 
 /// What the words of the command line ask for.
 struct Asked {
@@ -36,6 +38,7 @@ struct Asked {
     others: bool,
     null_row: bool,
     trace: bool,
+    record: Option<String>,
 }
 
 impl Asked {
@@ -48,6 +51,7 @@ impl Asked {
             others: true,
             null_row: false,
             trace: false,
+            record: None,
         };
         while let Some(word) = words.next() {
             match word.as_str() {
@@ -60,6 +64,7 @@ impl Asked {
                 },
                 "--null-row" => asked.null_row = true,
                 "--trace" => asked.trace = true,
+                "--record" => asked.record = Some(words.next()?),
                 _ => return None,
             }
         }
@@ -80,7 +85,21 @@ fn main() -> ExitCode {
         asked.seed,
         if asked.quick { ", quick" } else { "" }
     );
-    if run(&asked) {
+    if let Some(file) = &asked.record {
+        match std::fs::File::create(file) {
+            Ok(file) => record::start(Box::new(std::io::BufWriter::new(file))),
+            Err(error) => {
+                eprintln!("{file}: {error}");
+                return ExitCode::from(2);
+            }
+        }
+    }
+    let passed = run(&asked);
+    if let Err(error) = record::finish() {
+        eprintln!("the record: {error}");
+        return ExitCode::from(2);
+    }
+    if passed {
         ExitCode::SUCCESS
     } else {
         ExitCode::FAILURE
