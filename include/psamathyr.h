@@ -1,4 +1,4 @@
-/* Psamathyr: the door for hosts. One static library, libpsamathyr.a (rt staticlib psamathyr).
+/* Psamathyr: the door for hosts. One static library, libpsamathyr.a, for x86-64 and 64-bit Arm (tools/libraries).
  *
  * Every call replies, whatever it is lent: a refusal number from the list below with its row and field, or the numbers. A null pointer
  * needs length 0. The pieces of one call must not overlap. Nothing is stored between calls, nothing is allocated, and calls from
