@@ -23,20 +23,13 @@ use Rattle.rules.specs.Sheet.{digitsFrom, spaced, answerLine, sliceLine,
 use Rattle.rules.specs.Cases.{Shown, five, refusedBy, kPa, bars, logHex, pileHex, firstSlice, sheet, Case, joined, logIn, blankTable, resistanceIn, replyOf, worked, work, print, cases}
 use Rattle.rules.proofs.Groups.{pileChecks, early, late, checksFrom, answerFrom, slicesFrom}
 use Rattle.rules.proofs.ByRows.{Positive, lead, extent, cuts, topFrom, answerRows, slicesRows}
+use Rattle.rules.proofs.TableLaws.{both-left, both-right}
 use Rattle.rules.proofs.AnswerLaws.{answer-by-rows, slices-by-rows}
 
 -- no row of 0 mm
 abbrev pub positive : List Row → Bool
 positive [] = true
 positive (r ∷ rs) = both (ltb 0 (r .thickness)) (positive rs)
-
-pub both-left : (a b : Bool) → T (both a b) → T a
-both-left true b t = tt
-both-left false b t = t
-
-pub both-right : (a b : Bool) → T (both a b) → T b
-both-right true b t = t
-both-right false b t = absurd t
 
 pub are-positive : (rs : List Row) → T (positive rs) → Positive rs
 are-positive [] t = tt

@@ -26,7 +26,8 @@ use Rattle.rules.specs.WorkedEdits.{WorkedEdit, tableOf, rightAfter, fou
 use Rattle.rules.proofs.Groups.{pileChecks, early, late, checksFrom, answerFrom, slicesFrom}
 use Rattle.rules.proofs.ByRows.{lead, extent, cuts, topFrom, answerRows, slicesRows}
 use Rattle.rules.proofs.AnswerLaws.{answer-by-rows, slices-by-rows}
-use Rattle.rules.proofs.Known.{positive, are-positive, both-left, both-right}
+use Rattle.rules.proofs.TableLaws.{both-left, both-right}
+use Rattle.rules.proofs.Known.{positive, are-positive}
 
 abbrev checked : WorkedEdit → Refusal
 checked c = editChecks (c .edit) (logIn (c .rows)) (pileBytes (c .pile)) (tableOf (c .lent))

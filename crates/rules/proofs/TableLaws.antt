@@ -19,11 +19,11 @@ abbrev pub every : ℕ → (ℕ → Bool) → Bool
 every zero f = true
 every (suc n) f = both (f n) (every n f)
 
-both-left : (a b : Bool) → T (both a b) → T a
+pub both-left : (a b : Bool) → T (both a b) → T a
 both-left true b t = tt
 both-left false b t = t
 
-both-right : (a b : Bool) → T (both a b) → T b
+pub both-right : (a b : Bool) → T (both a b) → T b
 both-right true b t = t
 both-right false b t = absurd t
 
