@@ -1,6 +1,6 @@
 -- Cases A to L of document 01 hold of the definitions, each with its whole reply: one table, one theorem.
 use mathlib.Core.Path.{_≡_, refl, sym, _∙_, ap, ap₂}
-use mathlib.Core.Bool.{Bool, true, false}
+use mathlib.Core.Bool.{Bool, true}
 use mathlib.Core.List.{List, [], _∷_, map, _++_}
 use Prim.Native.Nat.{ℕ}
 use lib.Dec.{ltb, T, ltb→lt}

@@ -16,7 +16,7 @@ use Rattle.rules.specs.Packed.{numberAt, rowsFrom, rowsOf, pileOf, rowBy
 use Rattle.rules.specs.Ground.{depthOf, same, soilAt}
 use Rattle.rules.specs.Tables.{rowFor, spotOf, weighed, frictionAt, dashAt, tipAt}
 use Rattle.rules.specs.Numbers.{friction, factor, sliceOf, sliceEach, frictionSum, tipRead, resistance, tipForce, shaftForce, capacityOf, upliftOf}
-use Rattle.rules.specs.Edits.{Edit, stands, editedRows, editedLog}
+use Rattle.rules.specs.Edits.{stands, editedRows, editedLog}
 use Rattle.rules.specs.Checks.{unusedWrong, wrongField, firstWrong, newRowCheck, wrongPileField, sectionCheck, editChecks}
 use Rattle.rules.specs.Answers.{refused, numbers}
 use Rattle.rules.specs.Calculation.{answerOf, heldSlicesOf, freshAnswer, freshTable}
