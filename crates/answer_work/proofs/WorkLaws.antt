@@ -1,14 +1,12 @@
 -- What is worked out, check by check: the first check that refuses decides, and past them all the numbers stand.
 use mathlib.Core.Path.{_≡_, sym, _∙_, ap}
 use mathlib.Core.Bool.{Bool, true, false}
-use mathlib.Core.Logic.{⊎-elim}
 use mathlib.Core.List.{List}
-use Prim.Native.Nat.{ℕ, zero, suc, _/_, _<_, _≤_}
+use Prim.Native.Nat.{ℕ, zero, suc, _/_, _≤_}
 use native.Mathlib.Omega.{arith}
 use lib.Dec.{ltb}
 use lib.ListN.{length, replicate}
-use lib.Seq.{take-all}
-use borrow.Author.Tests.{lt-ltb, le-ltb, ltb-false}
+use borrow.Author.Tests.{lt-ltb, le-ltb}
 use Rattle.rules.specs.declared.Refusal.{Refusal}
 use Rattle.rules.specs.declared.Row.{Row}
 use Rattle.rules.specs.declared.Soil.{Soil}
@@ -21,18 +19,15 @@ use Rattle.rules.specs.Limits.{placeLimit}
 use Rattle.rules.specs.Packed.{rowsOf, pileOf, tableBytes}
 use Rattle.rules.specs.Ground.{depthOf, same, soilAt}
 use Rattle.rules.specs.Pieces.{runTop}
-use Rattle.rules.specs.Numbers.{tipOf, tipRead, pascals, resistance, frictionSum}
+use Rattle.rules.specs.Numbers.{tipOf, tipRead, pascals, resistance}
 use Rattle.rules.specs.Checks.{tooMany, groundChecks}
 use Rattle.rules.specs.Answers.{refused, numbers, answer, heldSlices}
 use Rattle.rules.specs.Calculation.{answerOf, heldSlicesOf, freshAnswer}
 use Rattle.rules.proofs.Groups.{pileChecks, early, late, checksFrom, ground-grouped}
-use Rattle.rules.proofs.Basics.{sure}
-use Rattle.rules.proofs.RefusalLaws.{first-left, first-right, when-true, when-false}
+use Rattle.rules.proofs.RefusalLaws.{first-left, first-right, when-false}
 use Rattle.record_slice_table.proofs.TableLaws.{filled-none}
-use Rattle.ground_strata.specs.declared.Stratum.{Stratum}
-use Rattle.ground_strata.specs.Strata.{stratumAt}
 use Rattle.ground_shaft.specs.declared.Shaft.{Shaft}
-use Rattle.ground_shaft.specs.Shafts.{cutOf, heldOf, noShaft, shaftOf}
+use Rattle.ground_shaft.specs.Shafts.{cutOf, shaftOf}
 use Rattle.answer_checks.specs.Depths.{depthChecks}
 
 -- a refusal's number, and whether it refuses
@@ -41,21 +36,6 @@ on n h = lt-ltb 0 n (omega (arith, h))
 
 pub off : (n : ℕ) → n ≡ 0 → ltb 0 n ≡ false
 off n h = le-ltb 0 n (omega arith)
-
--- a shaft with places for its slices, and one without
-module _ (cs : List Slice) (c : Shaft) (e : c ≡ shaftOf cs) where
-  by-test : (t : Bool) → tooMany (length cs) ≡ t → c ≡ pick t noShaft (record { used = length cs; sum = frictionSum cs })
-  unfolding shaftOf
-  by-test t q = rw q at e
-
-  shaft-many : placeLimit < c .used → tooMany (length cs) ≡ true
-  shaft-many h =
-      ⊎-elim (λ t. t)
-      (λ f. absurd (omega (arith, ap (λ (x : Shaft). x .used) (by-test false f), ltb-false placeLimit (length cs) f)))
-      (sure (tooMany (length cs)))
-
-  shaft-few : c .used ≤ placeLimit → (tooMany (length cs) ≡ false) × (c ≡ record { used = length cs; sum = frictionSum cs })
-  shaft-few h = ⊎-elim (λ t. absurd (omega (arith, ap (λ (x : Shaft). x .used) (by-test true t)))) (λ f. (f, by-test false f)) (sure (tooMany (length cs)))
 
 top-le : (g : ℕ → Soil) (s : Soil) (n : ℕ) → runTop g s n ≤ n
 unfolding runTop
@@ -66,8 +46,10 @@ top-le g s (suc n) = go (same s (g n)) (top-le g s n)
     go true h = omega arith
     go false h = omega arith
 
-pub stratum-top : (rs : List Row) (m : ℕ) (s : Stratum) → s ≡ stratumAt rs m → s .top ≤ m
-stratum-top rs m s e = rw e (top-le (soilAt rs) (soilAt rs m) m)
+-- a stratum begins above what it holds
+pub shaft-top : (rs : List Row) (p : Pile) (c : Shaft) → c ≡ shaftOf rs p → c .top ≤ p .tip
+unfolding shaftOf
+shaft-top rs p c e = rw e (top-le (soilAt rs) (soilAt rs (p .tip)) (p .tip))
 
 -- checks 5 and 6, then 7 and 8, as the code has them in hand
 pub early-is : (depth : ℕ) (p : Pile) (r own deep : Refusal) (n : ℕ) → r ≡ first own deep → own ≡ pileChecks p → deep ≡ refuse n → refuse n ≡ depthChecks depth p → r ≡ early depth p
@@ -114,35 +96,27 @@ module _ (rs : List Row) (p : Pile) (size : ℕ) where
     pub past-early : r .number ≡ 0 → refuses (early (depthOf rs) p) ≡ false
     past-early z = ap refuses (sym e) ∙ off (r .number) z
 
-  -- past checks 5 to 8, by the stratum that was found at the tip
-  module _ (h : refuses (early (depthOf rs) p) ≡ false) (s : Stratum) (e : s ≡ stratumAt rs (p .tip)) where
+  -- past checks 5 to 8, by the shaft that was cut, for which there are places
+  module _ (h : refuses (early (depthOf rs) p) ≡ false) (room : length cut ≤ placeLimit) (c : Shaft) (e : c ≡ shaftOf rs p) (n : ℕ) (l : refuse n ≡ late (c .soil) (c .top) p) where
     by-late : checks ≡ first (late below top p) (when (tooMany (length cut)) 15)
     unfolding checksFrom
     by-late = ground-grouped (soilAt rs) (depthOf rs) p ∙ first-right _ _ h
 
-    module _ (n : ℕ) (l : refuse n ≡ late (s .soil) (s .top) p) where
-      late-is : refuse n ≡ late below top p
-      late-is = rw e at l
+    late-is : refuse n ≡ late below top p
+    unfolding shaftOf
+    late-is = rw e at l
 
-      pub no-tip : (r : Refusal) → r ≡ refuse n → (n ≡ 0 → ⊥) → Decides r
-      no-tip r q k = decides r _ (q ∙ late-is) (ap refuses q ∙ on n k) (λ x. by-late ∙ first-left _ _ x)
+    pub no-tip : (r : Refusal) → r ≡ refuse n → (n ≡ 0 → ⊥) → Decides r
+    no-tip r q k = decides r _ (q ∙ late-is) (ap refuses q ∙ on n k) (λ x. by-late ∙ first-left _ _ x)
 
-      -- past checks 9 to 12, by the shaft that was cut
-      module _ (z : n ≡ 0) (c : Shaft) (q : c ≡ shaftOf cut) where
-        last : checks ≡ when (tooMany (length cut)) 15
-        last = by-late ∙ first-right _ _ (ap refuses (sym late-is) ∙ off n z)
-
-        pub no-place : (r : Refusal) → r ≡ refuse 15 → placeLimit < c .used → Decides r
-        no-place r j o = decides r _ (j ∙ sym (when-true 15 _ (shaft-many cut c q o))) (ap refuses j) (λ x. last)
-
-        pub done : c .used ≤ placeLimit → (t : TipRead) (r line : ℕ) (a : Answer) (bytes : List ℕ) → t ≡ tipRead (tipOf p) (s .soil .index) → r ≡ pascals t → line ≡ c .sum / 2000000
-            → a ≡ numbers (s .soil) p r line → bytes ≡ tableBytes size (heldOf cut) → Right rs p size a (c .used) bytes
-        unfolding answerOf answer heldSlicesOf heldSlices resistance
-        done o t r line a bytes read j k f b =
-            let few = shaft-few cut c q o in
-            let none : refuses checks ≡ false = ap refuses (last ∙ when-false 15 _ (few .0)) in
-            let all : heldOf cut ≡ cut = take-all placeLimit cut (ltb-false placeLimit (length cut) (few .0)) in
-            ((rw (none, f, k, j, read, few .1, e), rw (none, few .1)), rw none (b ∙ ap (tableBytes size) all))
+    -- past checks 9 to 12: 15 cannot come to pass
+    pub done : n ≡ 0 → (t : TipRead) (r line : ℕ) (a : Answer) (bytes : List ℕ) → t ≡ tipRead (tipOf p) (c .soil .index) → r ≡ pascals t → line ≡ c .sum / 2000000
+        → a ≡ numbers (c .soil) p r line → bytes ≡ tableBytes size cut → Right rs p size a (c .used) bytes
+    unfolding answerOf answer heldSlicesOf heldSlices resistance shaftOf
+    done z t r line a bytes read j k f b =
+        let last : checks ≡ when (tooMany (length cut)) 15 = by-late ∙ first-right _ _ (ap refuses (sym late-is) ∙ off n z) in
+        let none : refuses checks ≡ false = ap refuses (last ∙ when-false 15 _ (le-ltb placeLimit (length cut) room)) in
+        ((rw (none, f, k, j, read, e), rw (none, e)), rw none b)
 
 -- of the bytes of a log and a pile record
 pub fresh : (log pile : List ℕ) (p : Pile) (size : ℕ) (a : Answer) {used : ℕ} {bytes : List ℕ} → p ≡ pileOf pile → Right (rowsOf log) p size a used bytes

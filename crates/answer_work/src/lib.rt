@@ -1,4 +1,5 @@
-// What is worked out of a log past its checks and a pile record: checks 5 to 12 and 15 in order, the numbers, and the slice table, written in place.
+// What is worked out of a log past its checks and a pile record: checks 5 to 12 in order, the numbers, and the slice table, written in place.
+// 15 is not looked at: a table has places for every shaft that passes the checks before it.
 use answer_checks::depth_refusal;
 use answer_checks::tip_refusal;
 use answer_numbers::five_numbers;
@@ -23,7 +24,6 @@ ghost use Rattle.rules.specs.Calculation.{answerOf, heldSlicesOf, freshAnswer};
 ghost use Rattle.rules.proofs.Groups.{early};
 ghost use Rattle.rules.specs.Answers as answers;
 use rules::Answer;
-use rules::PLACE_LIMIT;
 use rules::Pile;
 use rules::Refusal;
 
@@ -33,7 +33,7 @@ pub struct Worked {
     pub used: usize,
 }
 
-// A refusal by 5 to 12 or 15: no number, and no slice in the table.
+// A refusal by 5 to 12: no number, and no slice in the table.
 fn no_work(table: &mut [u8], refusal: Refusal) -> Worked
     ensures { λ r. ⌜ (r .answer ≡ answers.refused refusal) × (r .used ≡ 0) ⌝ }
     ensures { λ _. ⌜ now (table .exit) ≡ replicate (length (now (table .entry))) 0 ⌝ }
@@ -46,24 +46,19 @@ fn no_work(table: &mut [u8], refusal: Refusal) -> Worked
     }
 }
 
-// A pile that passes checks 5 to 8.
+// A pile that passes checks 5 to 8. Its shaft is cut before checks 9 to 12 are looked at: the cut tells the soil below the tip and its stratum.
 fn work_pile(log: &[u8], pile: Pile, table: &mut [u8]) -> Worked
     requires { ⌜ Passed (now log) × (base.refuses (early (depthOf (rowsOf (now log))) pile) ≡ false) × (tableSize rowLimit ≤ length (now table)) ⌝ }
     ensures { λ r. ⌜ (r .answer ≡ answerOf (rowsOf (now (log .entry))) pile) × (r .used ≡ length (heldSlicesOf (rowsOf (now (log .entry))) pile)) ⌝ }
     ensures { λ _. ⌜ now (table .exit) ≡ tableBytes (length (now (table .entry))) (heldSlicesOf (rowsOf (now (log .entry))) pile) ⌝ }
 {
-    let tip = pile.tip as u64;
-    let stratum = ground_strata::stratum_at(log, tip);
-    let soil = stratum.soil;
-    let read = norm_tips::tip_resistance(tip, soil.index);
-    let late = tip_refusal(pile, soil, stratum.top, read);
+    let cut = ground_shaft::cut_shaft(log, pile, table);
+    let soil = cut.soil;
+    let used = cut.used;
+    let read = norm_tips::tip_resistance(pile.tip as u64, soil.index);
+    let late = tip_refusal(pile, soil, cut.top, read);
     if late != 0 {
         return no_work(table, refuse(late));
-    }
-    let cut = ground_shaft::cut_shaft(log, pile, table);
-    let used = cut.used;
-    if PLACE_LIMIT < used {
-        return no_work(table, refuse(15));
     }
     let answer = five_numbers(soil, pile, pascals(read), line_of(cut.sum));
     Worked {

@@ -9,21 +9,18 @@ use Rattle.rules.specs.declared.Refusal.{Refusal}
 use Rattle.rules.specs.declared.Answer.{Answer}
 use Rattle.rules.specs.Base.{refuses, when, first}
 use Rattle.rules.specs.Records.{rowSize}
-use Rattle.rules.specs.Limits.{rowLimit, placeLimit, limitOf, tableSize}
-use Rattle.rules.specs.Packed.{rowsOf, pileOf, tableBytes}
+use Rattle.rules.specs.Limits.{limitOf, tableSize}
+use Rattle.rules.specs.Packed.{rowsOf}
 use Rattle.rules.specs.Ground.{depthOf}
 use Rattle.rules.specs.Edits.{Edit, brings, editedLog}
 use Rattle.rules.specs.Checks.{formless, Passed, editLengthsWrong, editChecks, Accepted}
 use Rattle.rules.specs.Answers.{refused}
-use Rattle.rules.specs.Calculation.{heldSlicesOf, freshAnswer, freshTable}
-use Rattle.rules.specs.EditReplies.{editAnswer, editReply, editLog, editTable, usedSlices, kept, withKept}
+use Rattle.rules.specs.Calculation.{freshTable}
+use Rattle.rules.specs.EditReplies.{editAnswer, editReply, editLog, editTable}
 use Rattle.rules.proofs.Groups.{contentChecks, changeChecks, edit-grouped, log-grouped}
 use Rattle.rules.proofs.RefusalLaws.{first-off, first-none, when-off, when-false, either-left}
-use Rattle.rules.proofs.FormLaws.{one-form}
-use Rattle.rules.proofs.PassedLaws.{known}
 use Rattle.rules.proofs.EditLaws.{Left, left, free}
 use Rattle.record_log_checks.specs.declared.Checked.{Checked}
-use Rattle.answer_work.proofs.SliceLaws.{few-slices}
 use Rattle.edit_checks.specs.Checked.{editChecked}
 use Rattle.answer_calculation.proofs.CheckedLaws.{Long, long}
 use Rattle.edit_checks.proofs.RowChecks.{brought}
@@ -84,16 +81,3 @@ module _ (e : Edit) (log pile table : List ℕ) (none : Accepted e log pile tabl
       → (a ≡ editReply e log pile table) × ((s ≡ editLog e log pile table) × (new ≡ editTable e log pile table))
   unfolding editReply editLog editTable
   accepted-edit a new h t = (rw none (h ∙ rw f), (rw none f, rw none (t ∙ rw f)))
-
--- the answer of the log as it now stands, with kept, and its table
-pub held : (log pile table : List ℕ) (a : Answer) (n m : ℕ) (new old : List ℕ) → length table ≡ tableSize (limitOf log) → a ≡ freshAnswer log pile → n ≡ usedSlices log pile
-    → new ≡ tableBytes (length table) (heldSlicesOf (rowsOf log) (pileOf pile)) → old ≡ table → m ≡ kept n new old → (withKept m a ≡ editAnswer log pile table) × (new ≡ freshTable log pile)
-unfolding editAnswer freshTable
-held log pile table a n m new old l p q t u h = (rw (h, p, q, t, u, l), rw (t, l))
-
--- a table that goes with the log has places for every form, and no slice is past them
-pub room : (log table : List ℕ) → Passed log → length table ≡ tableSize (limitOf log) → length table ≡ tableSize rowLimit
-room log table p l = l ∙ ap tableSize (one-form log (known log p .form))
-
-pub few : (log pile : List ℕ) (n : ℕ) → n ≡ usedSlices log pile → n ≤ placeLimit
-few log pile n h = rw h (few-slices (rowsOf log) (pileOf pile))

@@ -1,6 +1,7 @@
--- One slice of the shaft, said of millimetres: what it is, and what is told of it.
+-- The slices of a part of one stratum, said of the paper's cut, and one of them as it is worked out.
 use mathlib.Core.Path.{_≡_}
-use Prim.Native.Nat.{ℕ, _*_, _-_, _≤_, min}
+use mathlib.Core.List.{List}
+use Prim.Native.Nat.{ℕ, _+_, _*_, _-_, _≤_, min}
 use Rattle.rules.specs.declared.Soil.{Soil}
 use Rattle.rules.specs.declared.Pile.{Pile}
 use Rattle.rules.specs.declared.Slice.{Slice}
@@ -8,30 +9,30 @@ use Rattle.rules.specs.Widths.{Fits}
 use Rattle.rules.specs.Records.{sliceWidths, sliceFields}
 use Rattle.rules.specs.Limits.{sliceThickness}
 use Rattle.rules.specs.Bounds.{weightBound}
-use Rattle.rules.specs.Pieces.{piece}
-use Rattle.rules.specs.Numbers.{sliceOf}
-use Rattle.ground_cuts.specs.declared.Cut.{Cut}
+use Rattle.rules.specs.Pieces.{cutFrom}
+use Rattle.rules.specs.Tables.{frictionAt}
+use Rattle.rules.specs.Numbers.{sliceEach}
+use Rattle.norm_columns.specs.declared.Column.{Column}
+use Rattle.norm_friction.specs.Standings.{spotIn}
 
--- how thick the slice is that begins at depth at, in a stratum down to bottom
-abbrev pub thickHere : Pile → ℕ → ℕ → ℕ
-thickHere p at bottom = min (min sliceThickness (p .tip - at)) (bottom - at)
+-- the slices from depth a to b, where all of it is soil s
+abbrev pub slicesIn : Pile → Soil → ℕ → ℕ → List Slice
+slicesIn p s a b = sliceEach p (cutFrom (λ m. s) (b - a) a b)
 
--- the slice itself, in soil s
-abbrev pub sliceHere : Pile → Soil → ℕ → ℕ → Slice
-sliceHere p s at bottom = sliceOf p (piece at (thickHere p at bottom) s)
+-- how thick the slice is that begins at depth a, where b is its stratum's end
+abbrev pub thickHere : ℕ → ℕ → ℕ
+thickHere a b = min sliceThickness (b - a)
 
 -- its part of the sum
 abbrev pub weightOf : Slice → ℕ
 weightOf c = c .friction * c .thickness * c .factor
 
--- a slice as it is worked out: its numbers fit their bits, and no millimetre weighs more than is foreseen
-pub record Read (c r : Slice) : Type 0 where
-  pub is : r ≡ c
+-- the slice of t millimetres that begins at depth a, by its soil's column and factor
+abbrev pub sliceBy : Column → ℕ → ℕ → ℕ → Slice
+sliceBy column factor a t = record { top = a; thickness = t; friction = frictionAt (spotIn column (a + a + t)); factor = factor }
+
+-- as it is worked out: its numbers fit their bits, and no millimetre weighs more than is foreseen
+pub record Read (column : Column) (factor a b : ℕ) (r : Slice) : Type 0 where
+  pub is : r ≡ sliceBy column factor a (thickHere a b)
   pub fits : Fits sliceWidths (sliceFields r)
   pub light : r .friction * r .factor ≤ weightBound
-
--- what is told of a slice that is cut
-pub record Done (p : Pile) (s : Soil) (at bottom : ℕ) (r : Cut) : Type 0 where
-  pub thick : r .thickness ≡ thickHere p at bottom
-  pub weight : r .weight ≡ weightOf (sliceHere p s at bottom)
-  pub small : r .weight ≤ weightBound * r .thickness

@@ -1,42 +1,43 @@
-// One slice of the shaft: how thick it is, its friction and factor, its place in the lent table, and its part of the sum.
+// The slices of a part of one stratum: how thick each is, its friction and factor, its place in the lent table, and its part of the sum.
 use base_order::smaller;
+use norm_columns::Column;
 use record_slice_table::put_slice;
 ghost use mathlib.Core.Path.{_≡_};
-ghost use Prim.Native.Nat.{_+_, _*_, _<_, _≤_};
+ghost use Prim.Native.Nat.{_+_, _*_, _-_, _^_, _<_, _≤_};
 ghost use lib.ListN.{length};
 ghost use Rattle.rules.specs.Widths.{Fits};
 ghost use Rattle.rules.specs.Records.{sliceWidths, sliceFields, sliceSize};
+ghost use Rattle.rules.specs.Bounds.{factorBound, weightBound};
+ghost use Rattle.rules.specs.Numbers.{frictionSum};
 ghost use Rattle.norm_friction_table.specs.Printed.{Lent};
-ghost use Rattle.record_slice_table.specs.Table.{putAt};
-ghost use Rattle.ground_cuts.specs.Cuts.{sliceHere, weightOf, Read, Done};
+ghost use Rattle.record_slice_table.specs.Table.{putAll};
+ghost use Rattle.ground_cuts.specs.Cuts.{slicesIn, weightOf, Read};
 use rules::Pile;
 use rules::Slice;
 use rules::Soil;
 use rules::THICKEST_SLICE;
 
-// How thick a slice is, and friction × thickness × factor.
-pub struct Cut {
-    pub thickness: u64,
-    pub weight: u64,
+// How many places of the table are used, and friction × thickness × factor of the slices that were cut, added up.
+pub struct Part {
+    pub used: usize,
+    pub sum: u64,
 }
 
-// The slice that begins at depth at, in a stratum of this soil down to bottom: at most 2,000 mm, and no further than the tip.
+// The slice that begins at depth at, read in this column: at most 2,000 mm, and no further than the end.
 fn next_slice(
     kpa: &[[u8; 10]; 13],
     metres: &[[u8; 2]; 36],
-    pile: Pile,
-    soil: Soil,
+    column: Column,
+    factor: u8,
     at: u64,
-    bottom: u64,
+    end: u64,
 ) -> Slice
-    requires { ⌜ Lent (now kpa) (now metres) × (at < pile .tip) × (at < bottom) ⌝ }
-    ensures { λ r. ⌜ Read (sliceHere pile soil at bottom) r ⌝ }
+    requires { ⌜ Lent (now kpa) (now metres) × (column .number ≤ 7) × (column .across ≤ 10) × (factor ≤ factorBound) × (at < end) × (end < 2 ^ 16) ⌝ }
+    ensures { λ r. ⌜ Read column factor at end r ⌝ }
 {
-    let tip = pile.tip as u64;
-    let thickness = smaller(smaller(THICKEST_SLICE, tip - at), bottom - at);
+    let thickness = smaller(THICKEST_SLICE, end - at);
     // Friction is read at the mid-depth, in half millimetres.
-    let friction = norm_friction::friction(kpa, metres, soil, at + at + thickness);
-    let factor = norm_factors::factor(pile.method, soil.kind);
+    let friction = norm_friction::friction(kpa, metres, column, at + at + thickness);
     Slice {
         top: at as u16,
         thickness: thickness as u16,
@@ -53,26 +54,33 @@ fn weigh(c: Slice) -> u64
     c.friction as u64 * c.thickness as u64 * c.factor as u64
 }
 
-// The next slice, put into its place. Table 7.3 and its index are lent.
-pub fn cut_slice(
+// What lies from one depth to another in a stratum of this soil, cut from its top, slice after slice put into the table from a place on.
+// Column and factor are the soil's alone. Table 7.3 and its index are lent.
+pub fn cut_part(
     kpa: &[[u8; 10]; 13],
     metres: &[[u8; 2]; 36],
     table: &mut [u8],
     place: usize,
     pile: Pile,
     soil: Soil,
-    at: u64,
-    bottom: u64,
-) -> Cut
-    requires { ⌜ Lent (now kpa) (now metres) × (place * sliceSize + sliceSize ≤ length (now table)) × (at < pile .tip) × (at < bottom) ⌝ }
-    ensures { λ r. ⌜ Done pile soil at bottom r ⌝ }
-    ensures { λ _. ⌜ now (table .exit) ≡ putAt (now (table .entry)) place (sliceHere pile soil at bottom) ⌝ }
+    from: u64,
+    end: u64,
+) -> Part
+    requires { ⌜ Lent (now kpa) (now metres) × (end < 2 ^ 16) × ((place + length (slicesIn pile soil from end)) * sliceSize ≤ length (now table)) ⌝ }
+    ensures { λ r. ⌜ (r ≡ record { used = place + length (slicesIn pile soil from end); sum = frictionSum (slicesIn pile soil from end) }) × (r .sum ≤ weightBound * (end - from)) ⌝ }
+    ensures { λ _. ⌜ now (table .exit) ≡ putAll (now (table .entry)) place (slicesIn pile soil from end) ⌝ }
 {
-    let c = next_slice(kpa, metres, pile, soil, at, bottom);
-    put_slice(table, place, c);
-    let weight = weigh(c);
-    Cut {
-        thickness: c.thickness as u64,
-        weight: weight,
+    let column = norm_friction::column_of(soil);
+    let factor = norm_factors::factor(pile.method, soil.kind);
+    let mut used = place;
+    let mut sum: u64 = 0;
+    let mut at = from;
+    while at < end {
+        let c = next_slice(kpa, metres, column, factor, at, end);
+        put_slice(table, used, c);
+        sum += weigh(c);
+        used += 1;
+        at += c.thickness as u64;
     }
+    Part { used, sum }
 }

@@ -1,3 +1,2 @@
 -- Laws of the shaft's slices.
-pub mod StratumLaws
 pub mod CutLaws

@@ -1,39 +1,34 @@
 -- The shaft cut into slices, said of millimetres: what is asked before, and what is replied of it.
 use mathlib.Core.List.{List}
-use Prim.Native.Nat.{ℕ, _+_, _<_, _≤_}
-use lib.ListN.{length, take}
+use Prim.Native.Nat.{ℕ, _<_, _≤_}
+use lib.ListN.{length}
 use Rattle.rules.specs.declared.Row.{Row}
 use Rattle.rules.specs.declared.Pile.{Pile}
 use Rattle.rules.specs.declared.Slice.{Slice}
-use Rattle.rules.specs.Base.{pick}
-use Rattle.rules.specs.Limits.{rowLimit, placeLimit, tableSize, tipLimit}
+use Rattle.rules.specs.Limits.{rowLimit, tableSize, tipLimit}
 use Rattle.rules.specs.Packed.{rowsOf}
 use Rattle.rules.specs.Ground.{depthOf, soilAt}
-use Rattle.rules.specs.Pieces.{pieces}
-use Rattle.rules.specs.Numbers.{sliceEach, frictionSum}
-use Rattle.rules.specs.Checks.{Passed, tooMany}
+use Rattle.rules.specs.Pieces.{runTop}
+use Rattle.rules.specs.Numbers.{belowTip, shaftSlices, frictionSum}
+use Rattle.rules.specs.Checks.{Passed}
 use Rattle.ground_shaft.specs.declared.Shaft.{Shaft}
 
--- a log past its checks that reaches the tip, and a table of so many bytes, with places enough for every form
+-- a log past its checks that goes on below the tip, and a table of so many bytes, with places enough for every form
 pub record Ready (log : List ℕ) (p : Pile) (size : ℕ) : Type 0 where
   pub passed : Passed log
-  pub order : p .head < p .tip
   pub near : p .tip ≤ tipLimit
-  pub deep : p .tip ≤ depthOf (rowsOf log)
+  pub deep : p .tip < depthOf (rowsOf log)
   pub room : tableSize rowLimit ≤ size
 
 -- the slices between head and tip
 abbrev pub cutOf : List Row → Pile → List Slice
-cutOf rs p = sliceEach p (pieces (soilAt rs) (p .head) (p .tip))
+cutOf rs p = shaftSlices (soilAt rs) p
 
--- those that the table has places for
-abbrev pub heldOf : List Slice → List Slice
-heldOf cs = take placeLimit cs
-
--- what is replied where the slices are too many: one more than there are places
-abbrev pub noShaft : Shaft
-noShaft = record { used = placeLimit + 1; sum = 0 }
-
--- how many the slices are, and their sum
-unfoldable pub shaftOf : List Slice → Shaft
-shaftOf cs = pick (tooMany (length cs)) noShaft (record { used = length cs; sum = frictionSum cs })
+-- how many they are and their sum, the soil of the millimetre just below the tip, and the top of its stratum
+unfoldable pub shaftOf : List Row → Pile → Shaft
+shaftOf rs p = record {
+  used = length (cutOf rs p);
+  sum = frictionSum (cutOf rs p);
+  soil = soilAt rs (belowTip p);
+  top = runTop (soilAt rs) (soilAt rs (belowTip p)) (belowTip p);
+}

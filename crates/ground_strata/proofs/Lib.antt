@@ -1,3 +1,4 @@
 -- Laws of the walk along a log's rows.
 pub mod LogLaws
-pub mod RunLaws
+pub mod StratumLaws
+pub mod OneRun

@@ -4,15 +4,13 @@ use mathlib.Core.List.{List, [], _∷_}
 use Prim.Native.Nat.{ℕ, zero, suc, _+_, _*_, _-_, _<_, _≤_}
 use native.Mathlib.Omega.{arith}
 use native.Mathlib.Numerals.{add-one}
-use lib.ListN.{length, take, drop, drop-of-length-le}
+use lib.ListN.{length, take, drop}
 use lib.Seq.{take-all}
 use Rattle.rules.specs.declared.Row.{Row}
 use Rattle.rules.specs.Records.{rowSize}
 use Rattle.rules.specs.Packed.{rowAt, rowsFrom, countOf, rowsOf}
 use Rattle.rules.specs.Ground.{depthOf, soilOf, soilAt}
-use Rattle.rules.proofs.ByRows.{lead, extent}
 use Rattle.rules.proofs.GroundLaws.{soil-here, soil-below}
-use Rattle.rules.proofs.RowLaws.{extent-here, extent-below}
 use Rattle.rules.proofs.PassedLaws.{count-length}
 use Rattle.rules.proofs.SpliceLaws.{depth-parts}
 
@@ -43,9 +41,6 @@ module _ (s : List ℕ) (i : ℕ) (h : countOf s ≤ i) where
   most : length (rowsOf s) ≤ i
   most = omega (arith, count-length s)
 
-  pub none-left : drop i (rowsOf s) ≡ []
-  none-left = drop-of-length-le (rowsOf s) most
-
   pub all-taken : depthOf (take i (rowsOf s)) ≡ depthOf (rowsOf s)
   all-taken = ap depthOf (take-all i (rowsOf s) most)
 
@@ -66,6 +61,3 @@ module _ {rs : List Row} {i : ℕ} {r : Row} (e : Next rs i r) (m : ℕ) (h : de
 
   pub row-soil : soilAt rs m ≡ soilOf r
   row-soil = left soilAt soil-below i rs m h ∙ ap (λ (y : List Row). soilAt y down) (e .left) ∙ soil-here r (drop (i + 1) rs) down (omega (arith, e .ends))
-
-  pub row-extent : extent rs m ≡ r .thickness - down + lead (soilOf r) (drop (i + 1) rs)
-  row-extent = left extent extent-below i rs m h ∙ ap (λ (y : List Row). extent y down) (e .left) ∙ extent-here r (drop (i + 1) rs) down (omega (arith, e .ends))

@@ -1,2 +1,2 @@
--- What is found along a log's rows.
+-- A stratum along the rows of a log.
 pub mod Strata

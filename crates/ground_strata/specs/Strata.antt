@@ -1,22 +1,28 @@
--- What is found along the rows, said of millimetres: the row and the stratum that hold one.
+-- The stratum that begins at a row, said of millimetres.
 use mathlib.Core.Path.{_≡_}
+use mathlib.Core.Bool.{false}
 use mathlib.Core.List.{List}
-use Prim.Native.Nat.{ℕ, _+_, _<_, _≤_}
+use Prim.Native.Nat.{ℕ, _+_, _*_, _-_, _<_, _≤_}
 use lib.ListN.{take}
-use Rattle.rules.specs.declared.Row.{Row}
-use Rattle.rules.specs.Packed.{countOf, rowsOf}
-use Rattle.rules.specs.Ground.{depthOf, soilAt}
-use Rattle.rules.specs.Pieces.{runTop}
-use Rattle.ground_strata.specs.declared.RowFound.{RowFound}
+use Rattle.rules.specs.Records.{rowSize}
+use Rattle.rules.specs.Packed.{countOf, rowAt, rowsOf}
+use Rattle.rules.specs.Ground.{depthOf, same, soilOf, soilAt}
 use Rattle.ground_strata.specs.declared.Stratum.{Stratum}
 
--- row r of log s holds millimetre m
-pub record RowHolds (s : List ℕ) (m : ℕ) (r : RowFound) : Type 0 where
-  pub row : r .row < countOf s
-  pub top : r .top ≡ depthOf (take (r .row) (rowsOf s))
-  pub above : r .top ≤ m
-  pub below : m < depthOf (take (r .row + 1) (rowsOf s))
+-- row `first` of the log begins at depth top, at or above the tip, and more than the tip lies above the log's end
+pub record Begins (log : List ℕ) (first top tip : ℕ) : Type 0 where
+  pub top-is : top ≡ depthOf (take first (rowsOf log))
+  pub high : top ≤ tip
+  pub deep : tip < depthOf (rowsOf log)
 
--- the soil at millimetre m, and the top of its run
-abbrev pub stratumAt : List Row → ℕ → Stratum
-stratumAt rs m = record { soil = soilAt rs m; top = runTop (soilAt rs) (soilAt rs m) m }
+-- from there down to r's bottom all is that row's soil; where that is not below the tip, another soil begins there; and its last row begins
+-- at or above the tip
+pub record Runs (log : List ℕ) (first top tip : ℕ) (r : Stratum) : Type 0 where
+  pub own : r .soil ≡ soilOf (rowAt log (1 + first * rowSize))
+  pub row : first < countOf log
+  pub some : top < r .bottom
+  pub bottom-is : r .bottom ≡ depthOf (take (r .next) (rowsOf log))
+  pub alike : (m : ℕ) → top ≤ m → m < r .bottom → soilAt (rowsOf log) m ≡ r .soil
+  pub least : depthOf (take (r .next - 1) (rowsOf log)) ≤ tip
+  pub behind : depthOf (take (r .next - 1) (rowsOf log)) < r .bottom
+  pub parted : r .bottom ≤ tip → same (r .soil) (soilAt (rowsOf log) (r .bottom)) ≡ false

@@ -1,5 +1,5 @@
 -- Friction by 20,000ths of the way down and tenths across is that of the definition.
-use mathlib.Core.Path.{_≡_, sym, _∙_, ap}
+use mathlib.Core.Path.{_≡_, refl, sym, _∙_, ap}
 use mathlib.Core.List.{List, []}
 use Prim.Native.Nat.{ℕ, _+_, _*_, _-_, _≤_}
 use native.Mathlib.Nat.{add-mul, mul-comm, mul-sub, mul-right-comm, eq-of-mul-eq-mul-right}
@@ -10,7 +10,7 @@ use Rattle.rules.specs.Tables.{frictionDepths, frictionRows, frictionCell, fric
 use Rattle.rules.specs.Numbers.{friction, frictionSpot, hundredths}
 use Rattle.rules.specs.declared.Spot.{Spot}
 use Rattle.rules.specs.declared.Soil.{Soil}
-use Rattle.rules.proofs.TableLaws.{friction-whole}
+use Rattle.rules.proofs.TableLaws.{column-whole}
 use Rattle.norm_columns.specs.declared.Column.{Column}
 use Rattle.norm_columns.specs.Across.{Across}
 use Rattle.norm_spots.specs.Standing.{InTable}
@@ -18,7 +18,7 @@ use Rattle.norm_spots.proofs.Search.{in-table}
 use Rattle.norm_spots.proofs.Weights.{weighed-le, weighed-is, shared}
 use Rattle.norm_friction.specs.declared.Standing.{Standing}
 use Rattle.norm_friction_table.specs.Printed.{headed}
-use Rattle.norm_friction.specs.Standings.{Stands}
+use Rattle.norm_friction.specs.Standings.{spotAt, spotIn, Stands}
 use Rattle.norm_friction.proofs.Standings.{friction-deepens, cells, cell-is}
 
 -- part of n, down of span: the same share
@@ -43,26 +43,37 @@ along-is rows i c e h =
     let n : c .number + 2 ≡ c .number + 1 + 1 = omega arith in
     rw (n, cell-is rows i (c .number) e h, cell-is rows i (c .number + 1) e h)
 
-pub friction-is : (s : Soil) (mid : ℕ) (rows : List (List ℕ)) (st : Standing) (c : Column) (upper lower : ℕ)
-    → rows ≡ headed frictionDepths frictionRows → Stands mid st → Across 7 (hundredths s) c
+-- a reading in a column at a mid-depth stands in the table
+pub in-column : (c : Column) (mid : ℕ) → c .number ≤ 7 → c .across ≤ 10 → InTable 11 7 (spotIn c mid)
+in-column c mid h l =
+    let t : InTable 11 7 (spotAt mid) = in-table frictionDepths 2000 11 friction-deepens 7 mid 0 in
+    record { row = t .row; column = h; weights = record { down = t .weights .down; some = t .weights .some; span = t .weights .span; across = l } }
+
+pub friction-is : (mid : ℕ) (rows : List (List ℕ)) (st : Standing) (c : Column) (upper lower : ℕ)
+    → rows ≡ headed frictionDepths frictionRows → Stands mid st
     → upper ≡ along rows (st .row) c → lower ≡ along rows (st .row + 1) c
-    → (20000 - st .part) * upper + st .part * lower ≡ friction s mid
-unfolding spotOf
-friction-is s mid rows st c upper lower r t k e f =
-    let p : Spot = frictionSpot s mid in
-    let w : InTable 11 7 p = in-table frictionDepths 2000 11 friction-deepens 7 mid (hundredths s) in
+    → (20000 - st .part) * upper + st .part * lower ≡ frictionAt (spotIn c mid)
+friction-is mid rows st c upper lower r t e f =
+    let p : Spot = spotIn c mid in
     let u : upper ≡ (10 - p .across) * frictionCell (p .row) (p .column) + p .across * frictionCell (p .row) (p .column + 1) =
-    e ∙ along-is rows (st .row) c r (omega arith) ∙ (rw (t .row, k .across, k .number)) in
+    e ∙ along-is rows (st .row) c r (omega arith) ∙ (rw (t .row)) in
     let l : lower ≡ (10 - p .across) * frictionCell (p .row + 1) (p .column) + p .across * frictionCell (p .row + 1) (p .column + 1) =
-    f ∙ along-is rows (st .row + 1) c r (omega arith) ∙ (rw (t .row, k .across, k .number)) in
-    eq-of-mul-eq-mul-right (p .span) (w .weights .some) _ _
+    f ∙ along-is rows (st .row + 1) c r (omega arith) ∙ (rw (t .row)) in
+    eq-of-mul-eq-mul-right (p .span) (in-table frictionDepths 2000 11 friction-deepens 7 mid 0 .weights .some) _ _
     (shares 20000 (st .part) (p .down) (p .span) upper lower (t .part)
-    ∙ ap (λ (x : ℕ). x * 20000) (weighed-is p _ _ _ _ upper lower u l) ∙ sym (friction-whole s mid))
+    ∙ ap (λ (x : ℕ). x * 20000) (weighed-is p _ _ _ _ upper lower u l) ∙ sym (column-whole mid p refl))
+
+-- in every column and at every depth
+pub column-most : (p : Spot) → InTable 11 7 p → frictionAt p ≤ frictionBound
+unfolding frictionAt
+column-most p t = shared (frictionWeighed p) (p .span) 1000 20000 (weighed-le frictionCell 11 7 100 p t cells)
 
 -- for every soil and depth
 pub friction-most : (s : Soil) (mid : ℕ) → friction s mid ≤ frictionBound
-unfolding friction frictionAt
-friction-most s mid =
-    let p = frictionSpot s mid in
-    shared (frictionWeighed p) (p .span) 1000 20000
-    (weighed-le frictionCell 11 7 100 p (in-table frictionDepths 2000 11 friction-deepens 7 mid (hundredths s)) cells)
+unfolding friction
+friction-most s mid = column-most (frictionSpot s mid) (in-table frictionDepths 2000 11 friction-deepens 7 mid (hundredths s))
+
+-- a soil's friction is read in its column
+pub soil-column : (s : Soil) (c : Column) (mid : ℕ) → Across 7 (hundredths s) c → frictionAt (spotIn c mid) ≡ friction s mid
+unfolding friction spotOf
+soil-column s c mid k = rw (k .across, k .number)

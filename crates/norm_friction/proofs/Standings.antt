@@ -94,3 +94,12 @@ stands mid depth above share r f e =
       last = f .last;
       whole = rw d (part-fits (spotAt mid .down) (spotAt mid .span) share (t .weights .down) (f .even));
     }
+
+-- above the first row and below the last
+pub above-all : (mid : ℕ) → mid < 2000 → Stands mid (record { row = 0; part = 0 })
+unfolding spotOf rowFor
+above-all mid h = let e : max 2000 (min mid 70000) ≡ 2000 = omega arith in record { row = rw e refl; part = rw e refl; last = omega arith; whole = omega arith }
+
+pub below-all : (mid : ℕ) → 70000 ≤ mid → Stands mid (record { row = 11; part = 20000 })
+unfolding spotOf rowFor
+below-all mid h = let e : max 2000 (min mid 70000) ≡ 70000 = omega arith in record { row = rw e refl; part = rw e refl; last = omega arith; whole = omega arith }

@@ -3,6 +3,7 @@ use mathlib.Core.Path.{_≡_}
 use Prim.Native.Nat.{ℕ, _*_, _≤_}
 use Rattle.rules.specs.Tables.{frictionDepths, spotOf}
 use Rattle.rules.specs.declared.Spot.{Spot}
+use Rattle.norm_columns.specs.declared.Column.{Column}
 use Rattle.norm_friction.specs.declared.Standing.{Standing}
 
 -- which no soil changes
@@ -15,3 +16,9 @@ pub record Stands (mid : ℕ) (r : Standing) : Type 0 where
   pub part : r .part * spotAt mid .span ≡ spotAt mid .down * 20000
   pub last : r .row ≤ 11
   pub whole : r .part ≤ 20000
+
+-- where a reading stands in a column at a mid-depth
+abbrev pub spotIn : Column → ℕ → Spot
+spotIn c mid =
+    let p = spotAt mid in
+    record { row = p .row; column = c .number; down = p .down; span = p .span; across = c .across }

@@ -1,9 +1,11 @@
 -- The rows of a log one after the other: those that are left to check, and those that are read.
-use mathlib.Core.Path.{_≡_, ap}
+use mathlib.Core.Path.{_≡_, refl, ap}
+use mathlib.Core.Bool.{true, false}
 use mathlib.Core.List.{List, _∷_}
 use Prim.Native.Nat.{ℕ, suc, _+_, _*_, _-_, _^_, _<_, _≤_}
 use native.Mathlib.Omega.{arith}
-use borrow.Author.Tests.{lt-ltb, le-ltb}
+use borrow.Author.Tests.{lt-ltb, le-ltb, eqb-true, eqb-false}
+use lib.Dec.{eqb}
 use Rattle.rules.specs.declared.Row.{Row}
 use Rattle.rules.specs.declared.Refusal.{Refusal}
 use Rattle.rules.specs.Base.{nothing}
@@ -48,19 +50,20 @@ checking-start s n =
     record { few = omega arith; small = omega arith; left = rw m; deep = rw m (omega arith) }
 
 module _ (s : List ℕ) (n d i : ℕ) (k : Checking s n d i) where
-  module _ (r : Row) (f : ℕ) (h : i < n) (e : r ≡ rowAt s (1 + i * rowSize)) (g : f ≡ wrongField r) where
-    pub checking-wrong : 0 < f → _≡_ {A = Checked} (record { refusal = record { number = 3; row = i + 1; field = f }; depth = 0 }) (rowsChecked s n)
+  module _ (r : Row) (h : i < n) (e : r ≡ rowAt s (1 + i * rowSize)) where
+    pub checking-wrong : (f : ℕ) → f ≡ wrongField r → eqb (wrongField r) 0 ≡ false
+        → _≡_ {A = Checked} (record { refusal = record { number = 3; row = i + 1; field = f }; depth = 0 }) (rowsChecked s n)
     unfolding rowsChecked
-    checking-wrong w = rw (← (wrong-here (i + 1) f r _ _ _ (left-row s n i r h e) g (k .left) w))
+    checking-wrong f g w = rw (← (wrong-here (i + 1) f r _ _ _ (left-row s n i r h e) g (k .left) (omega (arith, eqb-false (wrongField r) 0 w))))
 
-    pub checking-more : f ≤ 0 → r .thickness < 2 ^ 16 → Checking s n (d + r .thickness) (i + 1)
+    pub checking-more : eqb (wrongField r) 0 ≡ true → r .thickness < 2 ^ 16 → Checking s n (d + r .thickness) (i + 1)
     unfolding depthOf
     checking-more w b =
         let z : depthOf (rest s n i) ≡ r .thickness + depthOf (rest s n (i + 1)) = ap depthOf (left-row s n i r h e) in
         record {
           few = omega arith;
           small = omega (arith, k .small);
-          left = wrong-below (i + 1) f r _ _ _ (left-row s n i r h e) g (k .left) w;
+          left = wrong-below (i + 1) (wrongField r) r _ _ _ (left-row s n i r h e) refl (k .left) (omega (arith, eqb-true (wrongField r) 0 w));
           deep = omega (arith, k .deep);
         }
 

@@ -1,6 +1,7 @@
 // Checks 2 to 4 of a log: its count, its unused places, its rows and their depth.
 use record_lengths::row_limit;
 use record_row_ranges::row_field;
+use record_row_ranges::row_good;
 use record_rows::row_inside;
 use rules::DEPTH_LIMIT;
 use rules::ROW_SIZE;
@@ -98,9 +99,8 @@ fn check_rows(s: &[u8], n: u8) -> Checked
     let end = n as usize;
     while i < end {
         let row = row_inside(s, 1 + i * ROW_SIZE);
-        let f = row_field(row);
-        if 0 < f {
-            let r = row_refusal(i, f);
+        if !row_good(row) {
+            let r = row_refusal(i, row_field(row));
             return Checked {
                 refusal: r,
                 depth: 0,

@@ -3,6 +3,7 @@ use base_replies::in_range;
 use rules::Row;
 use rules::THICKNESS_LIMIT;
 ghost use mathlib.Core.Path.{_≡_};
+ghost use lib.Dec.{eqb};
 ghost use Rattle.rules.specs.Checks.{indexInRange, wrongField};
 ghost use Rattle.rules.specs.Reading.{rowZero};
 
@@ -55,4 +56,24 @@ pub fn row_field(r: Row) -> u32
         return 5;
     }
     0
+}
+
+// Whether every field is in its range: one answer for the rows of a log, most of which are good.
+pub fn row_good(row: Row) -> bool
+    ensures { λ g. ⌜ g ≡ eqb (wrongField row) 0 ⌝ }
+{
+    let index = index_in_range(row.kind, row.index);
+    if !in_range(1, THICKNESS_LIMIT, row.thickness) {
+        return false;
+    }
+    if !in_range(1, 6, row.kind as u16) {
+        return false;
+    }
+    if !index {
+        return false;
+    }
+    if 100 < row.saturation {
+        return false;
+    }
+    row.zero == 0
 }

@@ -10,7 +10,7 @@ use Rattle.rules.specs.declared.Slice.{Slice}
 use Rattle.rules.specs.Records.{sliceSize}
 use Rattle.rules.specs.Packed.{sliceBytes, slicesBytes, tableBytes}
 use Rattle.base_copies.proofs.CopyLaws.{with, with-behind}
-use Rattle.record_slice_table.specs.Table.{putAt}
+use Rattle.record_slice_table.specs.Table.{putAt, putAll}
 
 -- i bytes of d are cleared
 module _ (d e : List ℕ) (i : ℕ) (q : e ≡ replicate i 0 ++ drop i d) where
@@ -68,3 +68,11 @@ filled-more size cs b e n c h q f =
     let left : size - length cs * sliceSize ≡ sliceSize + after = omega (arith, f .0) in
     let all : b ≡ bytes ++ (replicate sliceSize 0 ++ zeros) = rw (f .1, left, ← replicate-append-replicate {A = ℕ} sliceSize after 0) in
     (more, rw (more, q, all, more-bytes cs c) (put-behind n c bytes (replicate sliceSize 0 ++ zeros) long))
+
+-- and any number of slices more
+pub filled-all : (size : ℕ) (cs ds : List Slice) (b : List ℕ) (n : ℕ) → (n + length ds) * sliceSize ≤ size → Filled size cs b n → Filled size (cs ++ ds) (putAll b n ds) (n + length ds)
+unfolding putAll
+filled-all size cs [] b n h f = let e : n + 0 ≡ n = omega arith in rw (append-nil cs, e) f
+filled-all size cs (d ∷ ds) b n h f =
+    let e : n + length (d ∷ ds) ≡ n + 1 + length ds = omega arith in
+    rw (e, ← append-assoc cs (d ∷ []) ds) (filled-all size (cs ++ (d ∷ [])) ds (putAt b n d) (n + 1) (omega arith) (filled-more size cs b (putAt b n d) n d (omega arith) refl f))

@@ -11,7 +11,8 @@ use Rattle.rules.specs.Records.{rowSize}
 use Rattle.rules.specs.Packed.{numberAt}
 use Rattle.record_bits.specs.Word.{wordSize, windowAt}
 
-pub five-are : (s : List ℕ) → windowAt s 1 + getD s 0 0 * 4294967296 ≡ numberAt s 0 rowSize
+pub five-are : (s : List ℕ)
+    → (getD s 0 0 * 256 + getD s 1 0) * 16777216 + ((getD s 2 0 * 256 + getD s 3 0) * 256 + getD s 4 0) ≡ numberAt s 0 rowSize
 unfolding numberAt
 five-are s = simp getD-drop (omega arith)
 

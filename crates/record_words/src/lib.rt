@@ -38,13 +38,15 @@ fn padded(s: &[u8]) -> [u8; WORD_SIZE]
     b
 }
 
-// Where all are inside, no byte asks where the slice ends: a load of four and one of one. The first byte is
-// added last: read before the four, it keeps the compiler from making one load of them.
+// Where all are inside, no byte asks where the slice ends. Thickness and soil are joined apart, so that a row's
+// thickness waits for no byte of its soil.
 pub fn whole_five(s: &[u8]) -> u64
     requires { ⌜ rowSize ≤ length (now s) ⌝ }
     ensures { λ r. ⌜ r ≡ numberAt (now (s .entry)) 0 rowSize ⌝ }
 {
-    four_at(s, 1) + wide(s[0]) * 4294967296
+    let high = wide(s[0]) * 256 + wide(s[1]);
+    let low = (wide(s[2]) * 256 + wide(s[3])) * 256 + wide(s[4]);
+    high * 16777216 + low
 }
 
 // The first five bytes of s, 0 past the end.

@@ -9,17 +9,17 @@ use lib.Dec.{eqb}
 use borrow.Author.Tests.{lt-ltb, le-ltb, eq-eqb}
 use Rattle.rules.specs.declared.Soil.{Soil}
 use Rattle.rules.specs.Ground.{same}
-use Rattle.rules.specs.Pieces.{Piece, piece, Stratum, stratum, strataFrom, strata, topOf, cutFrom, cutPart, cutParts, ends, piecesFrom, pieces, runTop}
+use Rattle.rules.specs.Pieces.{Piece, piece, stratum, strataFrom, strata, topOf, cutFrom, cutPart, cutParts, ends, piecesFrom, pieces, runTop}
 use Rattle.rules.proofs.Basics.{split, sure, same-eq}
 use Rattle.rules.proofs.PieceLaws.{turn}
 use Rattle.rules.proofs.RowLaws.{changed}
 use Rattle.rules.proofs.SeatLaws.{run-on, apart}
 
 -- one soil from a to b
-abbrev Alike : (ℕ → Soil) → Soil → ℕ → ℕ → Type 0
+abbrev pub Alike : (ℕ → Soil) → Soil → ℕ → ℕ → Type 0
 Alike g s a b = (m : ℕ) → a ≤ m → m < b → g m ≡ s
 
-no-pieces : (g : ℕ → Soil) (a n : ℕ) → n ≡ 0 → piecesFrom g a n ≡ []
+pub no-pieces : (g : ℕ → Soil) (a n : ℕ) → n ≡ 0 → piecesFrom g a n ≡ []
 unfolding piecesFrom
 no-pieces g a n e = rw e
 
@@ -72,6 +72,26 @@ part-cut g s head tip a b rest h c d e =
     rw f (e ∙ from-there g tip (max head b) (max head a) (λ w. omega arith) (λ w. omega arith)))
     (split (max head a) (min tip b))
 
+-- a part of one soil is cut as if all the ground were that soil
+alike-cut : (g : ℕ → Soil) (s : Soil) (k a b : ℕ) → Alike g s a b → cutFrom g k a b ≡ cutFrom (λ m. s) k a b
+unfolding cutFrom
+alike-cut g s zero a b c = refl
+alike-cut g s (suc k) a b c =
+    ⊎-elim
+    (λ (z : a < b).
+    let t : ℕ = min 2000 (b - a) in
+    rw (lt-ltb a b z, c a (omega arith) z) (ap (λ (x : List Piece). piece a t s ∷ x) (alike-cut g s k (a + t) b (λ m p q. c m (omega arith) q))))
+    (λ (z : b ≤ a). rw (le-ltb a b z))
+    (split a b)
+
+-- what is left of the shaft from a stratum's top on: its part of the shaft, then what is left from its bottom on
+pub stratum-cut : (g : ℕ → Soil) (s : Soil) (head tip a b : ℕ) → a < b → Alike g s a b → (b < tip → same s (g b) ≡ false)
+    → piecesFrom g (max head a) (tip - max head a) ≡ cutFrom (λ m. s) (min tip b - max head a) (max head a) (min tip b) ++ piecesFrom g (max head b) (tip - max head b)
+unfolding cutPart
+stratum-cut g s head tip a b h c d =
+    sym (part-cut g s head tip a b _ h c d refl)
+    ∙ ap (λ (x : List Piece). x ++ piecesFrom g (max head b) (tip - max head b)) (alike-cut g s (min tip b - max head a) (max head a) (min tip b) (λ m p q. c m (omega arith) (omega arith)))
+
 -- an open stratum with one more millimetre of its soil, and one that begins
 longer : (g : ℕ → Soil) (a b : ℕ) → Alike g (g a) a b → g b ≡ g a → Alike g (g a) a (b + 1)
 longer g a b c e m p q = ⊎-elim (λ (z : m < b). c m p z) (λ (z : b ≤ m). let f : m ≡ b = omega arith in ap g f ∙ e) (split m b)
@@ -104,7 +124,7 @@ begins g zero d = refl
 begins g (suc n) d = apart g (g (suc n - 1)) (g (suc n)) (suc n) (λ w. refl) (d (omega arith))
 
 module _ (g : ℕ → Soil) (m : ℕ) where
-  top-here : (a b : ℕ) → a ≤ m → m < b → Alike g (g a) a b → (0 < a → same (g (a - 1)) (g a) ≡ false) → runTop g (g m) m ≡ a
+  pub top-here : (a b : ℕ) → a ≤ m → m < b → Alike g (g a) a b → (0 < a → same (g (a - 1)) (g a) ≡ false) → runTop g (g m) m ≡ a
   top-here a b h l c d =
       let e : a + (m - a) ≡ m = omega arith in
       rw (c m h l) (rw e at (run-on g (g a) a (m - a) (λ k p q. c k p (omega arith))) ∙ begins g a d)

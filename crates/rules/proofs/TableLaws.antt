@@ -9,6 +9,7 @@ use lib.Dec.{T, eqb, eqb→eq}
 use lib.ListN.{getD}
 use borrow.Author.Tests.{lt-ltb, le-ltb}
 use Rattle.rules.specs.declared.Soil.{Soil}
+use Rattle.rules.specs.declared.Spot.{Spot}
 use Rattle.rules.specs.Base.{both, either}
 use Rattle.rules.specs.Tables.{frictionDepths, rowFor, spotOf, frictionWeighed, frictionAt}
 use Rattle.rules.specs.Numbers.{friction, frictionSpot}
@@ -63,9 +64,14 @@ divides n w t = ⊎-elim (λ (e : n ≡ 2000). rw e (omega arith)) (λ (r : (n �
     which false true e f t = inr (inl (eqb→eq n 4000 (subst T (sym f) tt)))
     which false false e f t = inr (inr (eqb→eq n 10000 t))
 
--- "Friction is kept in units of 1/200 Pa, in which it is always whole.": no remainder is dropped
+-- "Friction is kept in units of 1/200 Pa, in which it is always whole.": no remainder is dropped, at a mid-depth and in any column
+pub column-whole : (mid : ℕ) (p : Spot) → p .span ≡ spotOf frictionDepths 2000 11 7 mid 0 .span → frictionAt p * p .span ≡ frictionWeighed p * 20000
+unfolding frictionAt spotOf
+column-whole mid p e =
+    let i : ℕ = spotOf frictionDepths 2000 11 7 mid 0 .row in
+    let t = at 12 (λ k. either (eqb (apart k) 2000) (either (eqb (apart k) 4000) (eqb (apart k) 10000))) tt i (omega (arith, row-le frictionDepths 2000 11 0 (max 2000 (min mid 70000)))) in
+    divides (p .span) (frictionWeighed p) (rw e t)
+
 pub friction-whole : (s : Soil) (mid : ℕ) → friction s mid * frictionSpot s mid .span ≡ frictionWeighed (frictionSpot s mid) * 20000
-unfolding friction frictionAt spotOf
-friction-whole s mid =
-    let i : ℕ = frictionSpot s mid .row in
-    divides (apart i) (frictionWeighed (frictionSpot s mid)) (at 12 (λ k. either (eqb (apart k) 2000) (either (eqb (apart k) 4000) (eqb (apart k) 10000))) tt i (omega (arith, row-le frictionDepths 2000 11 0 (max 2000 (min mid 70000)))))
+unfolding friction spotOf
+friction-whole s mid = column-whole mid (frictionSpot s mid) refl

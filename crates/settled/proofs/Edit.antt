@@ -7,6 +7,7 @@ use Rattle.edit_moves.proofs as edit-moves
 use Rattle.edit_changes.proofs as edit-changes
 use Rattle.edit_kept.proofs as edit-kept
 use Rattle.edit_checks.proofs as edit-checks
+use Rattle.edit_hold.proofs as edit-hold
 use Rattle.edit_reply.proofs as edit-reply
 
 pub named-row : Settled edit-naming.named_row.Kinds.ps edit-naming.named_row.Kinds.r edit-naming.named_row.Reads.Pre edit-naming.named_row.Reads.Learnt
@@ -53,6 +54,9 @@ kept-count _ _ _ h g = cc
 
 pub check-edit : Settled edit-checks.check_edit.Kinds.ps edit-checks.check_edit.Kinds.r edit-checks.check_edit.Reads.Pre edit-checks.check_edit.Reads.Learnt
 check-edit _ _ _ h g = cc
+
+pub hold : Settled edit-hold.hold.Kinds.ps edit-hold.hold.Kinds.r edit-hold.hold.Reads.Pre edit-hold.hold.Reads.Learnt
+hold _ _ _ h g = (cc, cc)
 
 pub edit : Settled edit-reply.edit.Kinds.ps edit-reply.edit.Kinds.r edit-reply.edit.Reads.Pre edit-reply.edit.Reads.Learnt
 edit _ _ _ h g = (cc, (cc, cc))

@@ -34,6 +34,9 @@ rows _ _ _ h g = cc
 pub metres : Settled norm-friction-table.metres.Kinds.ps norm-friction-table.metres.Kinds.r norm-friction-table.metres.Reads.Pre norm-friction-table.metres.Reads.Learnt
 metres _ b d = index (shape _ _ (b .typed .1 .0 .1) (b .typed .1 .1)) (shape _ _ (d .typed .1 .0 .1) (d .typed .1 .1))
 
+pub column-of : Settled norm-friction.column_of.Kinds.ps norm-friction.column_of.Kinds.r norm-friction.column_of.Reads.Pre norm-friction.column_of.Reads.Learnt
+column-of _ _ _ h g = column (cc) (cc)
+
 pub friction : Settled norm-friction.friction.Kinds.ps norm-friction.friction.Kinds.r norm-friction.friction.Reads.Pre norm-friction.friction.Reads.Learnt
 friction _ _ _ h g = cc
 

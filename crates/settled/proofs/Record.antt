@@ -47,6 +47,9 @@ row-zero _ _ _ h g = cc
 pub row-field : Settled record-row-ranges.row_field.Kinds.ps record-row-ranges.row_field.Kinds.r record-row-ranges.row_field.Reads.Pre record-row-ranges.row_field.Reads.Learnt
 row-field _ _ _ h g = cc
 
+pub row-good : Settled record-row-ranges.row_good.Kinds.ps record-row-ranges.row_good.Kinds.r record-row-ranges.row_good.Reads.Pre record-row-ranges.row_good.Reads.Learnt
+row-good _ _ _ h g = cc
+
 pub pile-refusal : Settled record-pile-ranges.pile_refusal.Kinds.ps record-pile-ranges.pile_refusal.Kinds.r record-pile-ranges.pile_refusal.Reads.Pre record-pile-ranges.pile_refusal.Reads.Learnt
 pile-refusal _ _ _ h g = cc
 

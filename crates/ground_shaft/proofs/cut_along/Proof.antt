@@ -1,46 +1,31 @@
--- The shaft is cut down to depth at, the stratum that is open there is known, and the row in hand is the next of the log: so the next row
--- goes to the stratum, or the stratum is whole and its next slice is the next of the millimetre definition.
+-- Every stratum above depth `bottom` is cut: the next one is found along the rows, and its part of the shaft is the next of the millimetre definition.
 use borrow.Author.Needs.{needs}
-use mathlib.Core.Path.{_≡_, sym, _∙_}
-use mathlib.Core.Logic.{⊎-elim}
-use mathlib.Core.List.{List}
-use Prim.Native.Nat.{ℕ, _≤_, _<_, _-_, _+_, _*_}
+use mathlib.Core.Path.{_≡_, _∙_, ap}
+use Prim.Native.Nat.{_+_, _*_, _-_, _≤_}
 use native.Mathlib.Omega.{arith}
 use lib.ListN.{length}
-use Rattle.rules.specs.declared.Row.{Row}
-use Rattle.rules.specs.declared.Soil.{Soil}
-use Rattle.rules.specs.declared.Pile.{Pile}
 use Rattle.rules.specs.Records.{rowSize}
-use Rattle.rules.specs.Packed.{countOf, rowAt, rowsOf}
+use Rattle.rules.specs.Ground.{soilOf}
 use Rattle.rules.proofs.PassedLaws.{known}
 use Rattle.norm_friction_table.specs.Printed.{Lent}
-use Rattle.ground_strata.proofs.LogLaws.{Next, row-left}
 use Rattle.ground_shaft.specs.Shafts.{Ready}
-use Rattle.ground_shaft.proofs.StratumLaws.{Open, open-none, open-more, open-on, Whole, whole-before, whole-last}
-use Rattle.ground_shaft.proofs.CutLaws.{Doing, doing-none, doing-more, doing-long, over, all, shorter}
+use Rattle.ground_shaft.proofs.CutLaws.{Doing, doing-none, doing-long, begins, room, doing-more, all, all-bytes}
 use Rattle.ground_shaft.proofs.cut_along.Statement.{statement}
 use Rattle.ground_shaft.proofs.cut_along.Tie as tie
 
--- what changes from turn to turn, at the loop's head
-record Turn (log : List ℕ) (p : Pile) (size n : ℕ) (bytes : List ℕ) (used sum at next : ℕ) (row : Row) (soil : Soil) (bottom : ℕ) : Type 0 where
-  taken : next ≤ n
-  hand : next < n → row ≡ rowAt log (1 + next * rowSize)
-  stratum : Open (rowsOf log) next at bottom soil
-  doing : Doing (rowsOf log) p size used at bytes sum
-
 abbrev Inv-loop : tie.InvT-loop
-Inv-loop kpa metres log pile table₀ n tip used₀ sum₀ at₀ next₀ row₀ soil₀ bottom₀ table used sum at next row soil bottom =
-    Lent kpa metres × Ready log pile (length table₀) × Turn log pile (length table₀) n table used sum at next row soil bottom
+Inv-loop kpa metres log pile table₀ head tip used₀ sum₀ first₀ top₀ next₀ bottom₀ table used sum first top next bottom =
+    Lent kpa metres × Ready log pile (length table₀) × Doing log pile (length table₀) used sum first top next bottom table
 
 abbrev μ-loop : tie.MeasureT-loop
-μ-loop kpa metres log pile table₀ n tip used₀ sum₀ at₀ next₀ row₀ soil₀ bottom₀ table used sum at next row soil bottom = (tip - at) + (n - next)
+μ-loop kpa metres log pile table₀ head tip used₀ sum₀ first₀ top₀ next₀ bottom₀ table used sum first top next bottom = tip + 1 - bottom
 
--- the points that are cited often: the start, from before the loop and from its head, and the cleared table, which keeps its length
+-- the points that are cited often: the start, from the loop's head, and the cleared table, which keeps its length
+abbrev cleared : tie.At-loop Inv-loop μ-loop → tie.After-table Inv-loop μ-loop
+cleared c = c .before .before .before .before
+
 abbrev first : tie.After-table Inv-loop μ-loop → tie.Start Inv-loop μ-loop
 first c = c .before .before .before .before .before
-
-abbrev cleared : tie.At-loop Inv-loop μ-loop → tie.After-table Inv-loop μ-loop
-cleared c = c .before .before .before .before .before .before .before
 
 abbrev start : tie.At-loop Inv-loop μ-loop → tie.Start Inv-loop μ-loop
 start c = first (cleared c)
@@ -48,114 +33,77 @@ start c = first (cleared c)
 kept : (c : tie.After-table Inv-loop μ-loop) → length (c .before .clear-table .last .0) ≡ length (first c .args .table .now)
 kept c = c .table .given
 
-shared-slice-read-n : tie.Need-shared-slice-read-n Inv-loop μ-loop
-shared-slice-read-n c = let k = known _ (first (c .before .before) .pre .1 .passed) in omega arith
-
-cast-n : tie.Need-cast-n Inv-loop μ-loop
-cast-n c = let k = known _ (first (c .before .before) .pre .1 .passed) in search needs
-
-row-inside-requires : tie.Need-row-inside-requires Inv-loop μ-loop
-row-inside-requires c κs = let k = known _ (first (c .before .before .before .before) .pre .1 .passed) in search needs
-
 loop-holds : tie.Need-loop-holds Inv-loop μ-loop
 loop-holds c =
-    let table = c .before .before .before .before .before .before in
+    let table = c .before .before .before in
     let given = first table .pre in
-    let clear = rw (← kept table) at (table .before .clear-table .ensures) in
-    (given .0, rw (kept table) (given .1), record { taken = omega arith; hand = λ h. c .before .row-inside .ensures; stratum = open-none _ _ _; doing = doing-none _ _ _ _ (given .1 .order) clear })
+    (given .0, rw (kept table) (given .1), doing-none _ _ _ _ (rw (← kept table) at (table .before .clear-table .ensures)))
 
--- the table is as long as it was
-long : (c : tie.At-loop Inv-loop μ-loop) → length (c .loop .table) ≡ length (start c .args .table .now)
-long c = let l = c .loop .inv in doing-long (l .1) (l .2 .doing) ∙ kept (cleared c)
+stratum-from-requires : tie.Need-stratum-from-requires Inv-loop μ-loop
+stratum-from-requires c κs =
+    let l = c .before .loop .inv in
+    (l .1 .passed, begins (l .1) (l .2) (c .loop-test .taken))
 
--- the row in hand is the next of the log
-hand-row : (c : tie.At-loop Inv-loop μ-loop) → c .loop .next < countOf (start c .args .log .now) → Next (rowsOf (start c .args .log .now)) (c .loop .next) (c .loop .row)
-hand-row c h = row-left _ (c .loop .next) _ h (c .loop .inv .2 .hand h)
+cut-part-requires : tie.Need-cut-part-requires Inv-loop μ-loop
+cut-part-requires c κs =
+    let stratum = c .before .before .before in
+    let inside = stratum .before in
+    let l = inside .before .loop .inv in
+    let fits = room (l .1) (l .2) (inside .loop-test .taken) _ (stratum .stratum-from .ensures) in
+    (l .0, omega (arith, c .before .smaller .ensures), rw (doing-long (l .1) (l .2), c .before .smaller .ensures, c .before .before .larger .ensures) fits)
 
-add-bottom : tie.Need-add-bottom Inv-loop μ-loop
-add-bottom c =
-    let more = c .before .before .before .before in
-    let head = more .before .before in
-    let l = head .loop .inv in
-    let e = hand-row head (more .if1 .taken) in
-    omega (arith, l .2 .stratum .sum, known _ (l .1 .passed) .deep)
+add-sum : tie.Need-add-sum Inv-loop μ-loop
+add-sum c =
+    let part = c .before .before .before in
+    let bounds = part .before .before in
+    let l = bounds .before .before .before .before .loop .inv in
+    omega (arith, l .2 .small, l .1 .near, part .cut-part .ensures .0 .1, bounds .smaller .ensures)
 
-add-next : tie.Need-add-next Inv-loop μ-loop
-add-next c =
-    let more = c .before .before .before .before in
-    omega (arith, more .if1 .taken, more .before .before .before .before .before .before .before .shared-slice-known2 .given 0)
-
-row-in-requires : tie.Need-row-in-requires Inv-loop μ-loop
-row-in-requires c κs =
-    let more = c .before .before .before .before in
-    (omega (arith, more .if1 .taken), known _ (more .before .before .loop .inv .1 .passed) .inside)
+loop-less : tie.Need-loop-less Inv-loop μ-loop
+loop-less c =
+    let stratum = c .before .before .before .before .before .before .before in
+    omega (arith, stratum .stratum-from .ensures .some, stratum .before .loop-test .taken)
 
 loop-again : tie.Need-loop-again Inv-loop μ-loop
 loop-again c =
-    let told = c .before .before in
-    let joined = told .before .before in
-    let more = joined .before in
-    let head = more .before .before in
-    let l = head .loop .inv in
-    let stratum = open-more (l .2 .stratum) (hand-row head (more .if1 .taken)) (sym (joined .joins .ensures) ∙ told .before .if2 .taken) in
-    (l .0, l .1, record { taken = omega (arith, more .if1 .taken); hand = c .row-in .ensures; stratum = rw (told .soil-of2 .ensures) stratum; doing = l .2 .doing })
+    let part = c .before .before .before in
+    let bounds = part .before .before in
+    let stratum = bounds .before .before in
+    let inside = stratum .before in
+    let l = inside .before .loop .inv in
+    (l .0, l .1, doing-more (l .1) (l .2) (inside .loop-test .taken) _ (stratum .stratum-from .ensures) _ _ _ _ (bounds .before .larger .ensures) (bounds .smaller .ensures) (part .cut-part .ensures .0) (part .cut-part .ensures .1))
 
--- the open stratum is whole where its next slice is cut
-whole : (c : tie.Joined1 Inv-loop μ-loop) → Whole (rowsOf (start (c .before .before) .args .log .now)) (c .before .before .loop .at) (c .before .before .loop .bottom) (c .before .before .loop .soil)
-whole c =
-    let head = c .before .before in
-    let l = head .loop .inv in
-    ⊎-elim
-    (λ w. whole-before (l .2 .stratum) (hand-row head (w .0 .taken)) (sym (w .1 .ensures) ∙ w .2 .left))
-    (λ w. whole-last _ (l .2 .stratum) (w .left) (omega (arith, c .before .loop-test .taken, l .1 .deep)))
-    (c .if1 .came)
+-- the row at which the tip's stratum begins lies in the log
+row-fits : (c : tie.After-loop Inv-loop μ-loop) → 1 + c .before .loop .first * rowSize + rowSize ≤ length (start (c .before) .args .log .now)
+row-fits c =
+    let l = c .before .loop .inv in
+    let k = known _ (l .1 .passed) in
+    omega (arith, l .2 .row (c .loop-test .left))
+
+mul-row-inside : tie.Need-mul-row-inside Inv-loop μ-loop
+mul-row-inside c = omega (arith, row-fits c)
+
+add-row-inside : tie.Need-add-row-inside Inv-loop μ-loop
+add-row-inside c = omega (arith, row-fits c)
+
+row-inside-requires : tie.Need-row-inside-requires Inv-loop μ-loop
+row-inside-requires c κs = row-fits c
 
 same-length : tie.Need-same-length Inv-loop μ-loop
-same-length c = long (c .before .before .before)
+same-length c =
+    let head = c .before .before .before in
+    doing-long (head .loop .inv .1) (head .loop .inv .2) ∙ kept (cleared head)
 
 returns : tie.Need-returns Inv-loop μ-loop
 returns c =
-    let inside = c .before .before in
-    let l = inside .before .loop .inv in
-    let w = over (l .1) (l .2 .doing) (inside .loop-test .taken) (whole (c .before)) (c .if3 .taken) in
-    ((w .0, omega arith), rw (kept (cleared (inside .before))) at (w .1))
-
-cut-slice-requires : tie.Need-cut-slice-requires Inv-loop μ-loop
-cut-slice-requires c κs =
-    let room = c .before in
-    let inside = room .before .before in
-    let l = inside .before .loop .inv in
-    let long = doing-long (l .1) (l .2 .doing) in
-    (l .0, omega (arith, l .2 .doing .few, room .if3 .left, l .1 .room), inside .loop-test .taken, whole (room .before) .here)
-
-loop-less-2 : tie.Need-loop-less-2 Inv-loop μ-loop
-loop-less-2 c =
-    let cut = c .before .before .before .before in
-    let stratum = cut .before .before .before in
-    let head = stratum .before .before in
-    shorter (start head .args .pile) (head .loop .at) (head .loop .bottom) _ _ (cut .cut-slice .ensures .0 .thick) (stratum .before .loop-test .taken) (whole stratum .here)
-
-loop-again-2 : tie.Need-loop-again-2 Inv-loop μ-loop
-loop-again-2 c =
-    let cut = c .before .before .before .before in
-    let room = cut .before .before in
-    let inside = room .before .before in
-    let l = inside .before .loop .inv in
-    let doing = doing-more (l .1) (l .2 .doing) (inside .loop-test .taken) (whole (room .before)) _ _ (omega (arith, l .2 .doing .few, room .if3 .left)) (cut .cut-slice .ensures .1) (cut .cut-slice .ensures .0) in
-    (l .0, l .1, record { taken = l .2 .taken; hand = l .2 .hand; stratum = open-on (l .2 .stratum) _; doing = doing })
-
-same-length-2 : tie.Need-same-length-2 Inv-loop μ-loop
-same-length-2 c = long (c .before)
-
-returns-2 : tie.Need-returns-2 Inv-loop μ-loop
-returns-2 c =
-    let l = c .before .loop .inv in
-    let w = all (l .1) (l .2 .doing) (c .loop-test .left) in
-    ((w .0, omega (arith, l .2 .doing .small, l .2 .doing .high, l .1 .near)), rw (kept (cleared (c .before))) at (w .1))
+    let done = c .before .before in
+    let head = done .before in
+    let l = head .loop .inv in
+    let h = done .loop-test .left in
+    ((all (l .1) (l .2) h _ (c .soil-of .ensures ∙ ap soilOf (c .before .row-inside .ensures)), omega (arith, l .2 .small, l .1 .near)), rw (kept (cleared head)) at (all-bytes (l .1) (l .2) h))
 
 pub cut-along-spec : {M : Type 1} → statement M
 cut-along-spec =
-    tie.close (tie.spec Inv-loop μ-loop (λ c κs. search needs) shared-slice-read-n cast-n (λ c. search needs) (λ c. search needs) row-inside-requires
-    (λ c κs. search needs) loop-holds (λ c κs. search needs) (λ c κs. search needs) (λ c. search needs) add-bottom add-next row-in-requires
-    (λ c. search needs) loop-again same-length returns cut-slice-requires (λ c. search needs) (λ c. search needs) (λ c. search needs) loop-less-2
-    loop-again-2 same-length-2 returns-2)
+    tie.close (tie.spec Inv-loop μ-loop (λ c κs. search needs) (λ c. search needs) (λ c. search needs) loop-holds stratum-from-requires (λ c κs. search needs)
+    (λ c κs. search needs) cut-part-requires add-sum loop-less loop-again mul-row-inside add-row-inside row-inside-requires
+    (λ c κs. search needs) same-length returns)

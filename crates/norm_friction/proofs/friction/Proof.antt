@@ -1,18 +1,12 @@
 -- The cells of the row above and the row below, weighed across and then down, are the definition's reading.
 use mathlib.Core.Path.{_∙_}
-use Rattle.norm_friction.proofs.Reading.{friction-is, friction-most}
+use Rattle.norm_friction.proofs.Reading.{in-column, friction-is, column-most}
 use borrow.Author.Needs.{needs}
 use Rattle.norm_friction.proofs.friction.Statement.{statement}
 use Rattle.norm_friction.proofs.friction.Tie as tie
 
 stand-requires : tie.Need-stand-requires
 stand-requires c κs = search needs
-
-hundredths-requires : tie.Need-hundredths-requires
-hundredths-requires c κs = search needs
-
-column-for-requires : tie.Need-column-for-requires
-column-for-requires c κs = search needs
 
 mul-along : tie.Need-mul-along
 mul-along c = search needs
@@ -41,23 +35,19 @@ mean-requires c κs = search needs
 returns : tie.Need-returns
 returns c =
     let upper = c .before .before .before in
-    let column = upper .before .before in
-    let stand = column .before .before in
+    let stand = upper .before .before in
     let o = stand .before in
     let a = o .args in
     let e =
     c .mean .ensures .0
-    ∙ friction-is (a .soil) (a .mid) (a .rows .now) _ _ _ _ (o .pre .table) (stand .stand .ensures)
-    (rw (column .before .hundredths .ensures) at (column .column-for .ensures)) (upper .along .ensures .0) (c .before .along2 .ensures .0) in
-    (e, rw e (friction-most (a .soil) (a .mid)))
+    ∙ friction-is (a .mid) (a .rows .now) _ (a .column) _ _ (o .pre .0 .table) (stand .stand .ensures) (upper .along .ensures .0) (c .before .along2 .ensures .0) in
+    (e, rw e (column-most _ (in-column (a .column) (a .mid) (o .pre .1) (o .pre .2))))
 
 pub friction-spec : {M : Type 1} → statement M
 friction-spec =
     tie.close
     (tie.spec
     stand-requires
-    hundredths-requires
-    column-for-requires
     mul-along
     index-1-along
     along-requires

@@ -4,10 +4,10 @@ use mathlib.Core.List.{List}
 use Prim.Native.Nat.{ℕ}
 use native.Mathlib.Omega.{arith}
 use lib.ListN.{length}
-use Rattle.edit_reply.proofs.ReplyLaws.{room, few, held}
+use Rattle.edit_hold.proofs.HoldLaws.{room, few, held}
 use borrow.Author.Needs.{needs}
-use Rattle.edit_reply.proofs.hold.Statement.{statement}
-use Rattle.edit_reply.proofs.hold.Tie as tie
+use Rattle.edit_hold.proofs.hold.Statement.{statement}
+use Rattle.edit_hold.proofs.hold.Tie as tie
 
 table-copy-requires : tie.Need-table-copy-requires
 table-copy-requires c κs = let start = c .before .before .before .before in room (start .args .log .now) (start .args .table .now) (start .pre .0) (start .pre .2)

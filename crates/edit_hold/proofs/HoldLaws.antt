@@ -1,0 +1,27 @@
+-- Laws of what is held: the answer with kept, the table, and that the places suffice.
+use mathlib.Core.Path.{_≡_, _∙_, ap}
+use mathlib.Core.List.{List}
+use Prim.Native.Nat.{ℕ, _≤_}
+use lib.ListN.{length}
+use Rattle.rules.specs.declared.Answer.{Answer}
+use Rattle.rules.specs.Limits.{rowLimit, placeLimit, limitOf, tableSize}
+use Rattle.rules.specs.Packed.{rowsOf, pileOf, tableBytes}
+use Rattle.rules.specs.Checks.{Passed}
+use Rattle.rules.specs.Calculation.{heldSlicesOf, freshAnswer, freshTable}
+use Rattle.rules.specs.EditReplies.{editAnswer, usedSlices, kept, withKept}
+use Rattle.rules.proofs.FormLaws.{one-form}
+use Rattle.rules.proofs.PassedLaws.{known}
+use Rattle.answer_work.proofs.SliceLaws.{few-slices}
+
+-- the answer of the log as it now stands, with kept, and its table
+pub held : (log pile table : List ℕ) (a : Answer) (n m : ℕ) (new old : List ℕ) → length table ≡ tableSize (limitOf log) → a ≡ freshAnswer log pile → n ≡ usedSlices log pile
+    → new ≡ tableBytes (length table) (heldSlicesOf (rowsOf log) (pileOf pile)) → old ≡ table → m ≡ kept n new old → (withKept m a ≡ editAnswer log pile table) × (new ≡ freshTable log pile)
+unfolding editAnswer freshTable
+held log pile table a n m new old l p q t u h = (rw (h, p, q, t, u, l), rw (t, l))
+
+-- a table that goes with the log has places for every form, and no slice is past them
+pub room : (log table : List ℕ) → Passed log → length table ≡ tableSize (limitOf log) → length table ≡ tableSize rowLimit
+room log table p l = l ∙ ap tableSize (one-form log (known log p .form))
+
+pub few : (log pile : List ℕ) (n : ℕ) → n ≡ usedSlices log pile → n ≤ placeLimit
+few log pile n h = rw h (few-slices (rowsOf log) (pileOf pile))

@@ -1,0 +1,2 @@
+-- Laws that the proof of the function cites.
+pub mod HoldLaws
