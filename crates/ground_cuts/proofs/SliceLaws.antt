@@ -19,13 +19,13 @@ use Rattle.rules.specs.Numbers.{hundredths, factor, sliceOf, sliceEach, frictio
 use Rattle.rules.proofs.Basics.{split}
 use Rattle.norm_columns.specs.declared.Column.{Column}
 use Rattle.norm_columns.specs.Across.{Across}
-use Rattle.norm_friction.specs.Standings.{spotIn}
+use Rattle.norm_friction.specs.Standings.{columnSpot}
 use Rattle.norm_friction.proofs.Reading.{soil-column}
 use Rattle.record_slice_table.specs.Table.{putAt, putAll}
 use Rattle.ground_cuts.specs.Cuts.{slicesIn, thickHere, weightOf, sliceBy, Read}
-use Rattle.ground_cuts.specs.declared.Part.{Part}
+use Rattle.ground_cuts.specs.declared.Cut.{Cut}
 
-pub read-is : (column : Column) (a b t f k : ℕ) → a < b → b < 2 ^ 16 → t ≡ thickHere a b → (f ≡ frictionAt (spotIn column (a + a + t))) × (f ≤ frictionBound)
+pub read-is : (column : Column) (a b t f k : ℕ) → a < b → b < 2 ^ 16 → t ≡ thickHere a b → (f ≡ frictionAt (columnSpot column (a + a + t))) × (f ≤ frictionBound)
     → k ≤ factorBound → Read column k a b (record { top = a; thickness = t; friction = f; factor = k })
 read-is column a b t f k h l e ef lk = record {
   is = rw (ef .0, e);
@@ -121,7 +121,7 @@ module _ (column : Column) (factor : ℕ) where
         }
 
     pub cutting-all : (cs : List Slice) → left a b ≡ cs → b ≤ at
-        → (_≡_ {A = Part} (record { used = used; sum = sum }) (record { used = place + length cs; sum = frictionSum cs }) × (sum ≤ weightBound * (b - a))) × (bytes ≡ putAll bytes₀ place cs)
+        → (_≡_ {A = Cut} (record { used = used; sum = sum }) (record { used = place + length cs; sum = frictionSum cs }) × (sum ≤ weightBound * (b - a))) × (bytes ≡ putAll bytes₀ place cs)
     unfolding putAll frictionSum
     cutting-all cs e h =
         let z = none-left at b h in

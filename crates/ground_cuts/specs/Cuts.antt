@@ -13,13 +13,13 @@ use Rattle.rules.specs.Pieces.{cutFrom}
 use Rattle.rules.specs.Tables.{frictionAt}
 use Rattle.rules.specs.Numbers.{sliceEach}
 use Rattle.norm_columns.specs.declared.Column.{Column}
-use Rattle.norm_friction.specs.Standings.{spotIn}
+use Rattle.norm_friction.specs.Standings.{columnSpot}
 
 -- the slices from depth a to b, where all of it is soil s
 abbrev pub slicesIn : Pile → Soil → ℕ → ℕ → List Slice
 slicesIn p s a b = sliceEach p (cutFrom (λ m. s) (b - a) a b)
 
--- how thick the slice is that begins at depth a, where b is its stratum's end
+-- how thick the slice is that begins at depth a, where the part ends at b
 abbrev pub thickHere : ℕ → ℕ → ℕ
 thickHere a b = min sliceThickness (b - a)
 
@@ -29,7 +29,7 @@ weightOf c = c .friction * c .thickness * c .factor
 
 -- the slice of t millimetres that begins at depth a, by its soil's column and factor
 abbrev pub sliceBy : Column → ℕ → ℕ → ℕ → Slice
-sliceBy column factor a t = record { top = a; thickness = t; friction = frictionAt (spotIn column (a + a + t)); factor = factor }
+sliceBy column factor a t = record { top = a; thickness = t; friction = frictionAt (columnSpot column (a + a + t)); factor = factor }
 
 -- as it is worked out: its numbers fit their bits, and no millimetre weighs more than is foreseen
 pub record Read (column : Column) (factor a b : ℕ) (r : Slice) : Type 0 where

@@ -10,6 +10,7 @@ ghost use Rattle.rules.specs.Records.{sliceWidths, sliceFields, sliceSize};
 ghost use Rattle.rules.specs.Bounds.{factorBound, weightBound};
 ghost use Rattle.rules.specs.Numbers.{frictionSum};
 ghost use Rattle.norm_friction_table.specs.Printed.{Lent};
+ghost use Rattle.norm_friction.specs.Standings.{FrictionColumn};
 ghost use Rattle.record_slice_table.specs.Table.{putAll};
 ghost use Rattle.ground_cuts.specs.Cuts.{slicesIn, weightOf, Read};
 use rules::Pile;
@@ -18,7 +19,7 @@ use rules::Soil;
 use rules::THICKEST_SLICE;
 
 // How many places of the table are used, and friction × thickness × factor of the slices that were cut, added up.
-pub struct Part {
+pub struct Cut {
     pub used: usize,
     pub sum: u64,
 }
@@ -32,7 +33,7 @@ fn next_slice(
     at: u64,
     end: u64,
 ) -> Slice
-    requires { ⌜ Lent (now kpa) (now metres) × (column .number ≤ 7) × (column .across ≤ 10) × (factor ≤ factorBound) × (at < end) × (end < 2 ^ 16) ⌝ }
+    requires { ⌜ Lent (now kpa) (now metres) × FrictionColumn column × (factor ≤ factorBound) × (at < end) × (end < 2 ^ 16) ⌝ }
     ensures { λ r. ⌜ Read column factor at end r ⌝ }
 {
     let thickness = smaller(THICKEST_SLICE, end - at);
@@ -65,7 +66,7 @@ pub fn cut_part(
     soil: Soil,
     from: u64,
     end: u64,
-) -> Part
+) -> Cut
     requires { ⌜ Lent (now kpa) (now metres) × (end < 2 ^ 16) × ((place + length (slicesIn pile soil from end)) * sliceSize ≤ length (now table)) ⌝ }
     ensures { λ r. ⌜ (r ≡ record { used = place + length (slicesIn pile soil from end); sum = frictionSum (slicesIn pile soil from end) }) × (r .sum ≤ weightBound * (end - from)) ⌝ }
     ensures { λ _. ⌜ now (table .exit) ≡ putAll (now (table .entry)) place (slicesIn pile soil from end) ⌝ }
@@ -82,5 +83,5 @@ pub fn cut_part(
         used += 1;
         at += c.thickness as u64;
     }
-    Part { used, sum }
+    Cut { used, sum }
 }

@@ -22,10 +22,10 @@ use Rattle.rules.proofs.RoomLaws.{slices-room}
 use Rattle.rules.proofs.StratumLaws.{no-pieces, stratum-cut, top-here}
 use Rattle.record_slice_table.specs.Table.{putAll}
 use Rattle.record_slice_table.proofs.TableLaws.{Filled, filled-none, filled-long, filled-all}
-use Rattle.ground_cuts.specs.declared.Part.{Part}
+use Rattle.ground_cuts.specs.declared.Cut.{Cut}
 use Rattle.ground_cuts.specs.Cuts.{slicesIn}
-use Rattle.ground_strata.specs.declared.Stratum.{Stratum}
-use Rattle.ground_strata.specs.Strata.{Begins, Runs}
+use Rattle.ground_strata.specs.declared.StratumFound.{StratumFound}
+use Rattle.ground_strata.specs.Strata.{Begins, Reaches}
 use Rattle.ground_shaft.specs.declared.Shaft.{Shaft}
 use Rattle.ground_shaft.specs.Shafts.{Ready, cutOf, shaftOf}
 
@@ -44,7 +44,7 @@ abbrev leftOf : List Row → Pile → ℕ → List Slice
 leftOf rs p b = sliceEach p (piecesFrom (soilAt rs) (max (p .head) b) (p .tip - max (p .head) b))
 
 -- the slices of a stratum's part of the shaft
-abbrev pub partOf : Pile → ℕ → Stratum → List Slice
+abbrev pub partOf : Pile → ℕ → StratumFound → List Slice
 partOf p top r = slicesIn p (r .soil) (max (p .head) top) (min (p .tip) (r .bottom))
 
 -- every stratum above depth `bottom`, where row `next` begins, is cut; the last of them begins at row `first` and depth `top`
@@ -91,7 +91,7 @@ module _ {log : List ℕ} {p : Pile} {size : ℕ} (a : Ready log p size) {used s
   pub begins : bottom ≤ p .tip → Begins log next bottom (p .tip)
   begins h = record { top-is = g .bottom-is; high = h; deep = a .deep }
 
-  module _ (h : bottom ≤ p .tip) (r : Stratum) (w : Runs log next bottom (p .tip) r) where
+  module _ (h : bottom ≤ p .tip) (r : StratumFound) (w : Reaches log next bottom (p .tip) r) where
     abbrev part : List Slice
     part = partOf p bottom r
 
@@ -108,13 +108,13 @@ module _ {log : List ℕ} {p : Pile} {size : ℕ} (a : Ready log p size) {used s
     room = omega (arith, places, a .room)
 
     -- its part, as it was cut
-    pub doing-more : (from end : ℕ) (q : Part) (e : List ℕ) → from ≡ max (p .head) bottom → end ≡ min (p .tip) (r .bottom)
+    pub doing-more : (from end : ℕ) (q : Cut) (e : List ℕ) → from ≡ max (p .head) bottom → end ≡ min (p .tip) (r .bottom)
         → (q ≡ record { used = used + length (slicesIn p (r .soil) from end); sum = frictionSum (slicesIn p (r .soil) from end) }) × (q .sum ≤ weightBound * (end - from))
         → e ≡ putAll bytes used (slicesIn p (r .soil) from end) → Doing log p size (q .used) (sum + q .sum) next bottom (r .next) (r .bottom) e
     doing-more from end q e f k y x =
         let is : slicesIn p (r .soil) from end ≡ part = rw (f, k) in
-        let count : q .used ≡ used + length part = ap (λ (z : Part). z .used) (y .0) ∙ ap (λ (z : List Slice). used + length z) is in
-        let sum-is : q .sum ≡ frictionSum part = ap (λ (z : Part). z .sum) (y .0) ∙ ap frictionSum is in
+        let count : q .used ≡ used + length part = ap (λ (z : Cut). z .used) (y .0) ∙ ap (λ (z : List Slice). used + length z) is in
+        let sum-is : q .sum ≡ frictionSum part = ap (λ (z : Cut). z .sum) (y .0) ∙ ap frictionSum is in
         let on : soilAt (rowsOf log) bottom ≡ r .soil = w .alike bottom (omega arith) (w .some) in
         let last : soilAt (rowsOf log) (r .bottom - 1) ≡ r .soil = w .alike (r .bottom - 1) (omega (arith, w .some)) (omega (arith, w .some)) in
         record {

@@ -1,4 +1,4 @@
 -- Laws of the walk along a log's rows.
 pub mod LogLaws
 pub mod StratumLaws
-pub mod OneRun
+pub mod OneStratum

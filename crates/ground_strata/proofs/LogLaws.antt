@@ -44,20 +44,17 @@ module _ (s : List ℕ) (i : ℕ) (h : countOf s ≤ i) where
   pub all-taken : depthOf (take i (rowsOf s)) ≡ depthOf (rowsOf s)
   all-taken = ap depthOf (take-all i (rowsOf s) most)
 
--- below the first i rows only the others count, of whatever looks past a row above
-left : {A : Type 0} (g : List Row → ℕ → A) → ((r : Row) (rs : List Row) (m : ℕ) → r .thickness ≤ m → g (r ∷ rs) m ≡ g rs (m - r .thickness))
-    → (i : ℕ) (rs : List Row) (m : ℕ) → depthOf (take i rs) ≤ m → g rs m ≡ g (drop i rs) (m - depthOf (take i rs))
+-- below the first i rows only the others count
+soil-below-rows : (i : ℕ) (rs : List Row) (m : ℕ) → depthOf (take i rs) ≤ m → soilAt rs m ≡ soilAt (drop i rs) (m - depthOf (take i rs))
 unfolding depthOf
-left g b zero rs m h = let e : m ≡ m - 0 = omega arith in ap (g rs) e
-left g b (suc i) [] m h = let e : m ≡ m - 0 = omega arith in ap (g []) e
-left g b (suc i) (r ∷ rs) m h =
+soil-below-rows zero rs m h = let e : m ≡ m - 0 = omega arith in ap (soilAt rs) e
+soil-below-rows (suc i) [] m h = let e : m ≡ m - 0 = omega arith in ap (soilAt []) e
+soil-below-rows (suc i) (r ∷ rs) m h =
     let e : m - r .thickness - depthOf (take i rs) ≡ m - (r .thickness + depthOf (take i rs)) = omega arith in
-    b r rs m (omega arith) ∙ left g b i rs (m - r .thickness) (omega arith) ∙ ap (g (drop i rs)) e
+    soil-below r rs m (omega arith) ∙ soil-below-rows i rs (m - r .thickness) (omega arith) ∙ ap (soilAt (drop i rs)) e
 
--- what the millimetres of a row hold
-module _ {rs : List Row} {i : ℕ} {r : Row} (e : Next rs i r) (m : ℕ) (h : depthOf (take i rs) ≤ m) (l : m < depthOf (take (i + 1) rs)) where
-  abbrev down : ℕ
-  down = m - depthOf (take i rs)
-
-  pub row-soil : soilAt rs m ≡ soilOf r
-  row-soil = left soilAt soil-below i rs m h ∙ ap (λ (y : List Row). soilAt y down) (e .left) ∙ soil-here r (drop (i + 1) rs) down (omega (arith, e .ends))
+-- the millimetres of a row are its soil
+pub row-soil : {rs : List Row} {i : ℕ} {r : Row} → Next rs i r → (m : ℕ) → depthOf (take i rs) ≤ m → m < depthOf (take (i + 1) rs) → soilAt rs m ≡ soilOf r
+row-soil {rs} {i} {r} e m h l =
+    let down : ℕ = m - depthOf (take i rs) in
+    soil-below-rows i rs m h ∙ ap (λ (y : List Row). soilAt y down) (e .left) ∙ soil-here r (drop (i + 1) rs) down (omega (arith, e .ends))

@@ -17,7 +17,7 @@ use Rattle.rules.proofs.Basics.{split, same-eq}
 use Rattle.rules.proofs.PassedLaws.{known}
 use Rattle.rules.proofs.RangeLaws.{fit-drop, fit-thickness}
 use Rattle.rules.proofs.SpliceLaws.{depth-parts}
-use Rattle.ground_strata.specs.Strata.{Begins, Runs}
+use Rattle.ground_strata.specs.Strata.{Begins, Reaches}
 use Rattle.ground_strata.proofs.LogLaws.{Next, row-left, row-soil, all-taken}
 
 -- a row that begins at or above the tip is one of the log's
@@ -96,9 +96,9 @@ module _ {log : List ℕ} (p : Passed log) {first top tip : ℕ} (b : Begins log
       }
 
       -- it has another
-      pub run-parted : same s (soilOf r) ≡ false → Runs log first top tip (record { soil = s; bottom = bottom; next = next })
-      run-parted t = record { own = o .own; row = o .row; some = o .some; bottom-is = o .bottom-is; least = o .least; behind = o .behind; alike = o .alike; parted = λ k. ap (same s) (here bottom (omega arith) (omega (arith, row-thick))) ∙ t }
+      pub reaches-parted : same s (soilOf r) ≡ false → Reaches log first top tip (record { soil = s; bottom = bottom; next = next })
+      reaches-parted t = record { own = o .own; row = o .row; some = o .some; bottom-is = o .bottom-is; least = o .least; behind = o .behind; alike = o .alike; parted = λ k. ap (same s) (here bottom (omega arith) (omega (arith, row-thick))) ∙ t }
 
     -- the tip stands on the stratum
-    pub run-past : tip < bottom → Runs log first top tip (record { soil = s; bottom = bottom; next = next })
-    run-past h = record { own = o .own; row = o .row; some = o .some; bottom-is = o .bottom-is; least = o .least; behind = o .behind; alike = o .alike; parted = λ k. absurd (omega arith) }
+    pub reaches-past : tip < bottom → Reaches log first top tip (record { soil = s; bottom = bottom; next = next })
+    reaches-past h = record { own = o .own; row = o .row; some = o .some; bottom-is = o .bottom-is; least = o .least; behind = o .behind; alike = o .alike; parted = λ k. absurd (omega arith) }

@@ -7,7 +7,7 @@ use lib.ListN.{take}
 use Rattle.rules.specs.Records.{rowSize}
 use Rattle.rules.specs.Packed.{countOf, rowAt, rowsOf}
 use Rattle.rules.specs.Ground.{depthOf, same, soilOf, soilAt}
-use Rattle.ground_strata.specs.declared.Stratum.{Stratum}
+use Rattle.ground_strata.specs.declared.StratumFound.{StratumFound}
 
 -- row `first` of the log begins at depth top, at or above the tip, and more than the tip lies above the log's end
 pub record Begins (log : List ℕ) (first top tip : ℕ) : Type 0 where
@@ -17,7 +17,7 @@ pub record Begins (log : List ℕ) (first top tip : ℕ) : Type 0 where
 
 -- from there down to r's bottom all is that row's soil; where that is not below the tip, another soil begins there; and its last row begins
 -- at or above the tip
-pub record Runs (log : List ℕ) (first top tip : ℕ) (r : Stratum) : Type 0 where
+pub record Reaches (log : List ℕ) (first top tip : ℕ) (r : StratumFound) : Type 0 where
   pub own : r .soil ≡ soilOf (rowAt log (1 + first * rowSize))
   pub row : first < countOf log
   pub some : top < r .bottom

@@ -18,7 +18,7 @@ use Rattle.norm_spots.proofs.Search.{in-table}
 use Rattle.norm_spots.proofs.Weights.{weighed-le, weighed-is, shared}
 use Rattle.norm_friction.specs.declared.Standing.{Standing}
 use Rattle.norm_friction_table.specs.Printed.{headed}
-use Rattle.norm_friction.specs.Standings.{spotAt, spotIn, Stands}
+use Rattle.norm_friction.specs.Standings.{spotAt, FrictionColumn, columnSpot, Stands}
 use Rattle.norm_friction.proofs.Standings.{friction-deepens, cells, cell-is}
 
 -- part of n, down of span: the same share
@@ -44,17 +44,17 @@ along-is rows i c e h =
     rw (n, cell-is rows i (c .number) e h, cell-is rows i (c .number + 1) e h)
 
 -- a reading in a column at a mid-depth stands in the table
-pub in-column : (c : Column) (mid : ℕ) → c .number ≤ 7 → c .across ≤ 10 → InTable 11 7 (spotIn c mid)
-in-column c mid h l =
+pub in-column : (c : Column) (mid : ℕ) → FrictionColumn c → InTable 11 7 (columnSpot c mid)
+in-column c mid h =
     let t : InTable 11 7 (spotAt mid) = in-table frictionDepths 2000 11 friction-deepens 7 mid 0 in
-    record { row = t .row; column = h; weights = record { down = t .weights .down; some = t .weights .some; span = t .weights .span; across = l } }
+    record { row = t .row; column = h .last; weights = record { down = t .weights .down; some = t .weights .some; span = t .weights .span; across = h .tenths } }
 
 pub friction-is : (mid : ℕ) (rows : List (List ℕ)) (st : Standing) (c : Column) (upper lower : ℕ)
     → rows ≡ headed frictionDepths frictionRows → Stands mid st
     → upper ≡ along rows (st .row) c → lower ≡ along rows (st .row + 1) c
-    → (20000 - st .part) * upper + st .part * lower ≡ frictionAt (spotIn c mid)
+    → (20000 - st .part) * upper + st .part * lower ≡ frictionAt (columnSpot c mid)
 friction-is mid rows st c upper lower r t e f =
-    let p : Spot = spotIn c mid in
+    let p : Spot = columnSpot c mid in
     let u : upper ≡ (10 - p .across) * frictionCell (p .row) (p .column) + p .across * frictionCell (p .row) (p .column + 1) =
     e ∙ along-is rows (st .row) c r (omega arith) ∙ (rw (t .row)) in
     let l : lower ≡ (10 - p .across) * frictionCell (p .row + 1) (p .column) + p .across * frictionCell (p .row + 1) (p .column + 1) =
@@ -74,6 +74,6 @@ unfolding friction
 friction-most s mid = column-most (frictionSpot s mid) (in-table frictionDepths 2000 11 friction-deepens 7 mid (hundredths s))
 
 -- a soil's friction is read in its column
-pub soil-column : (s : Soil) (c : Column) (mid : ℕ) → Across 7 (hundredths s) c → frictionAt (spotIn c mid) ≡ friction s mid
+pub soil-column : (s : Soil) (c : Column) (mid : ℕ) → Across 7 (hundredths s) c → frictionAt (columnSpot c mid) ≡ friction s mid
 unfolding friction spotOf
 soil-column s c mid k = rw (k .across, k .number)

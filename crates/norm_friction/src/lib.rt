@@ -11,7 +11,7 @@ ghost use Rattle.rules.specs.Numbers as numbers;
 ghost use Rattle.norm_friction_table.specs.Printed.{Lent};
 ghost use Rattle.rules.specs.Tables.{frictionAt};
 ghost use Rattle.norm_columns.specs.Across.{Across};
-ghost use Rattle.norm_friction.specs.Standings.{Stands, spotIn};
+ghost use Rattle.norm_friction.specs.Standings.{Stands, FrictionColumn, columnSpot};
 
 // Hundredths right of column 0.2.
 fn hundredths(soil: Soil) -> u64
@@ -80,8 +80,8 @@ pub fn column_of(soil: Soil) -> Column
 
 // In 1/200 Pa, in a column and at a mid-depth in half millimetres.
 pub fn friction(rows: &[[u8; 10]; 13], metres: &[[u8; 2]; 36], column: Column, mid: u64) -> u64
-    requires { ⌜ Lent (now rows) (now metres) × (column .number ≤ 7) × (column .across ≤ 10) ⌝ }
-    ensures { λ r. ⌜ (r ≡ frictionAt (spotIn column mid)) × (r ≤ frictionBound) ⌝ }
+    requires { ⌜ Lent (now rows) (now metres) × FrictionColumn column ⌝ }
+    ensures { λ r. ⌜ (r ≡ frictionAt (columnSpot column mid)) × (r ≤ frictionBound) ⌝ }
 {
     let stands = stand(rows, metres, mid);
     let i = stands.row;

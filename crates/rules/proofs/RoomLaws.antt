@@ -9,11 +9,10 @@ use lib.ListN.{length}
 use lib.Dec.{ltb, eqb}
 use borrow.Author.Tests.{lt-ltb, le-ltb, eqb-true, eqb-false}
 use Rattle.rules.specs.Base.{pick, either, neg}
-use Rattle.rules.specs.Limits.{rowLimit, placesFor, placeLimit, tipLimit, sliceThickness}
+use Rattle.rules.specs.Limits.{placesFor, tipLimit, sliceThickness}
 use Rattle.rules.specs.Ground.{depthOf, same, soilAt}
 use Rattle.rules.specs.Pieces.{Piece, piece, ends, walk, piecesFrom, pieces}
 use Rattle.rules.specs.Numbers.{sliceEach}
-use Rattle.rules.specs.Checks.{tooMany}
 use Rattle.rules.specs.declared.Soil.{Soil}
 use Rattle.rules.specs.declared.Row.{Row}
 use Rattle.rules.specs.declared.Pile.{Pile}
@@ -125,7 +124,3 @@ slices-length p (c ∷ cs) = ap suc (slices-length p cs)
 
 pub slices-room : (rs : List Row) (p : Pile) (n : ℕ) → length rs ≤ n → p .tip ≤ depthOf rs → p .tip ≤ tipLimit → length (sliceEach p (pieces (soilAt rs) (p .head) (p .tip))) ≤ placesFor n
 slices-room rs p n k d h = rw (slices-length p (pieces (soilAt rs) (p .head) (p .tip))) (room rs (p .head) (p .tip) n k d h)
-
--- 15 cannot come to pass: a log within the row limit whose rows reach the tip
-pub never-many : (rs : List Row) (p : Pile) → length rs ≤ rowLimit → p .tip ≤ depthOf rs → p .tip ≤ tipLimit → tooMany (length (sliceEach p (pieces (soilAt rs) (p .head) (p .tip)))) ≡ false
-never-many rs p k d h = le-ltb placeLimit _ (slices-room rs p rowLimit k d h)

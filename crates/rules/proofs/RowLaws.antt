@@ -17,19 +17,19 @@ use Rattle.rules.proofs.Basics.{split, sure, same-eq}
 use Rattle.rules.proofs.GroundLaws.{soil-here, soil-below}
 use Rattle.rules.proofs.PieceLaws.{turn}
 
-pub lead-on : (s : Soil) (r : Row) (rs : List Row) → same s (soilOf r) ≡ true → lead s (r ∷ rs) ≡ r .thickness + lead s rs
+lead-on : (s : Soil) (r : Row) (rs : List Row) → same s (soilOf r) ≡ true → lead s (r ∷ rs) ≡ r .thickness + lead s rs
 unfolding lead
 lead-on s r rs e = rw e
 
-pub lead-off : (s : Soil) (r : Row) (rs : List Row) → same s (soilOf r) ≡ false → lead s (r ∷ rs) ≡ 0
+lead-off : (s : Soil) (r : Row) (rs : List Row) → same s (soilOf r) ≡ false → lead s (r ∷ rs) ≡ 0
 unfolding lead
 lead-off s r rs e = rw e
 
-pub extent-here : (r : Row) (rs : List Row) (m : ℕ) → m < r .thickness → extent (r ∷ rs) m ≡ r .thickness - m + lead (soilOf r) rs
+extent-here : (r : Row) (rs : List Row) (m : ℕ) → m < r .thickness → extent (r ∷ rs) m ≡ r .thickness - m + lead (soilOf r) rs
 unfolding extent
 extent-here r rs m h = rw (lt-ltb m (r .thickness) h)
 
-pub extent-below : (r : Row) (rs : List Row) (m : ℕ) → r .thickness ≤ m → extent (r ∷ rs) m ≡ extent rs (m - r .thickness)
+extent-below : (r : Row) (rs : List Row) (m : ℕ) → r .thickness ≤ m → extent (r ∷ rs) m ≡ extent rs (m - r .thickness)
 unfolding extent
 extent-below r rs m h = rw (le-ltb m (r .thickness) h)
 
@@ -105,7 +105,7 @@ changed true b h = refl
 changed false b h = rw h
 
 -- the next piece, by rows
-pub next : (rs : List Row) (a n : ℕ) → Positive rs → 0 < n → a + n ≤ depthOf rs
+next : (rs : List Row) (a n : ℕ) → Positive rs → 0 < n → a + n ≤ depthOf rs
     → piecesFrom (soilAt rs) a n ≡ piece a (thickAt rs a n) (soilAt rs a) ∷ piecesFrom (soilAt rs) (a + thickAt rs a n) (n - thickAt rs a n)
 next rs a n p z l =
     let v : 0 < extent rs a = extent-pos rs a (omega arith) in

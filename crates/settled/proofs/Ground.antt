@@ -2,7 +2,7 @@
 use Rattle.settled.proofs.Settled.{Settled}
 use Rattle.ground_soils.proofs as ground-soils
 use Rattle.ground_strata.proofs as ground-strata
-use Rattle.ground_strata.proofs.OneRun.{one-run}
+use Rattle.ground_strata.proofs.OneStratum.{one-stratum}
 use Rattle.ground_cuts.proofs as ground-cuts
 use Rattle.ground_shaft.proofs as ground-shaft
 
@@ -13,7 +13,7 @@ pub same-soil : Settled ground-soils.same_soil.Kinds.ps ground-soils.same_soil.K
 same-soil _ _ _ h g = cc
 
 pub stratum-from : Settled ground-strata.stratum_from.Kinds.ps ground-strata.stratum_from.Kinds.r ground-strata.stratum_from.Reads.Pre ground-strata.stratum_from.Reads.Learnt
-stratum-from _ _ _ h g = one-run h g
+stratum-from _ _ _ h g = one-stratum h g
 
 pub cut-part : Settled ground-cuts.cut_part.Kinds.ps ground-cuts.cut_part.Kinds.r ground-cuts.cut_part.Reads.Pre ground-cuts.cut_part.Reads.Learnt
 cut-part _ _ _ h g = (cc, cc)

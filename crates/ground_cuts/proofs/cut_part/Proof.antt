@@ -11,6 +11,7 @@ use Rattle.rules.specs.Records.{sliceSize}
 use Rattle.rules.specs.Bounds.{factorBound}
 use Rattle.norm_columns.specs.declared.Column.{Column}
 use Rattle.norm_friction_table.specs.Printed.{Lent}
+use Rattle.norm_friction.specs.Standings.{FrictionColumn}
 use Rattle.ground_cuts.proofs.SliceLaws.{left, Cutting, cutting-none, one-more, cutting-more, cutting-all, soil-left}
 use Rattle.ground_cuts.proofs.cut_part.Statement.{statement}
 use Rattle.ground_cuts.proofs.cut_part.Tie as tie
@@ -18,8 +19,7 @@ use Rattle.ground_cuts.proofs.cut_part.Tie as tie
 -- what stays from turn to turn
 record Given (kpa metres : List (List ℕ)) (column : Column) (factor size place from end : ℕ) : Type 0 where
   lent : Lent kpa metres
-  number : column .number ≤ 7
-  across : column .across ≤ 10
+  column-is : FrictionColumn column
   factor-most : factor ≤ factorBound
   near : end < 2 ^ 16
   room : (place + length (left column factor from end)) * sliceSize ≤ size
@@ -42,12 +42,12 @@ loop-holds c =
     let given = column .before .before .pre in
     let across = column .column-of .ensures in
     let is = soil-left (a .pile) (a .soil) _ _ (a .from) (a .end) across (c .factor .ensures .0) in
-    (record { lent = given .0; number = across .last; across = across .tenths; factor-most = c .factor .ensures .2; near = given .1; room = omega (arith, given .2, ap length is) }, cutting-none _ _ _ _ _ _)
+    (record { lent = given .0; column-is = record { last = across .last; tenths = across .tenths }; factor-most = c .factor .ensures .2; near = given .1; room = omega (arith, given .2, ap length is) }, cutting-none _ _ _ _ _ _)
 
 next-slice-requires : tie.Need-next-slice-requires Inv-loop μ-loop
 next-slice-requires c κs =
     let given = c .before .loop .inv .0 in
-    (given .lent, given .number, given .across, given .factor-most, c .loop-test .taken, given .near)
+    (given .lent, given .column-is, given .factor-most, c .loop-test .taken, given .near)
 
 -- a place is left, and the table is as long as it was
 place-left : (c : tie.In-loop Inv-loop μ-loop) → (c .before .loop .used + 1) * sliceSize ≤ length (start (c .before) .args .table .now)

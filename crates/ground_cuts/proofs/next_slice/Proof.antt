@@ -8,7 +8,7 @@ returns : tie.Need-returns
 returns c =
     let thick = c .before in
     let given = thick .before .pre in
-    read-is _ _ _ _ _ _ (given .4) (given .5) (thick .smaller .ensures) (c .friction .ensures) (given .3)
+    read-is _ _ _ _ _ _ (given .3) (given .4) (thick .smaller .ensures) (c .friction .ensures) (given .2)
 
 pub next-slice-spec : {M : Type 1} → statement M
 next-slice-spec =

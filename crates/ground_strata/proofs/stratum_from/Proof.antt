@@ -9,7 +9,7 @@ use Rattle.rules.specs.Records.{rowSize}
 use Rattle.rules.specs.Checks.{Passed}
 use Rattle.rules.proofs.PassedLaws.{known}
 use Rattle.ground_strata.specs.Strata.{Begins}
-use Rattle.ground_strata.proofs.StratumLaws.{Open, open-deep, first-there, open-one, next-there, row-thick, row-deep, open-more, run-parted, run-past}
+use Rattle.ground_strata.proofs.StratumLaws.{Open, open-deep, first-there, open-one, next-there, row-thick, row-deep, open-more, reaches-parted, reaches-past}
 use Rattle.ground_strata.proofs.stratum_from.Statement.{statement}
 use Rattle.ground_strata.proofs.stratum_from.Tie as tie
 
@@ -69,7 +69,7 @@ returns c =
     let row = c .before .before .before in
     let l = row .before .before .loop .inv in
     let e = rw (c .before .before .soil-of2 .ensures) at (c .before .same-soil .ensures) in
-    run-parted (l .0) (l .1) (l .2) (row .before .loop-test .taken) _ (row .row-inside2 .ensures) (sym e ∙ not-true _ (c .if1 .taken))
+    reaches-parted (l .0) (l .1) (l .2) (row .before .loop-test .taken) _ (row .row-inside2 .ensures) (sym e ∙ not-true _ (c .if1 .taken))
 
 add-bottom-2 : tie.Need-add-bottom-2 Inv-loop μ-loop
 add-bottom-2 c =
@@ -91,7 +91,7 @@ loop-again c =
     (l .0, l .1, open-more (l .0) (l .1) (l .2) (row .before .loop-test .taken) _ (row .row-inside2 .ensures) (sym e ∙ not-false _ (c .before .if1 .left)))
 
 returns-2 : tie.Need-returns-2 Inv-loop μ-loop
-returns-2 c = let l = c .before .loop .inv in run-past (l .0) (l .1) (l .2) (c .loop-test .left)
+returns-2 c = let l = c .before .loop .inv in reaches-past (l .0) (l .1) (l .2) (c .loop-test .left)
 
 pub stratum-from-spec : {M : Type 1} → statement M
 stratum-from-spec =

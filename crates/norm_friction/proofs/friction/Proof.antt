@@ -41,7 +41,7 @@ returns c =
     let e =
     c .mean .ensures .0
     ∙ friction-is (a .mid) (a .rows .now) _ (a .column) _ _ (o .pre .0 .table) (stand .stand .ensures) (upper .along .ensures .0) (c .before .along2 .ensures .0) in
-    (e, rw e (column-most _ (in-column (a .column) (a .mid) (o .pre .1) (o .pre .2))))
+    (e, rw e (column-most _ (in-column (a .column) (a .mid) (o .pre .1))))
 
 pub friction-spec : {M : Type 1} → statement M
 friction-spec =
