@@ -1,6 +1,6 @@
 // Checks 9 to 12, which look at the soil below the tip, its stratum and the tip table.
 use crate::seat::seat_short;
-use norm_tips::is_dash;
+use norm_tip_reads::is_dash;
 ghost use mathlib.Core.Path.{_≡_};
 ghost use Prim.Native.Nat.{_≤_};
 ghost use Rattle.rules.specs.Base as base;

@@ -7,7 +7,7 @@ use answer_numbers::line_of;
 use base_replies::first;
 use base_replies::refuse;
 use base_replies::refused;
-use norm_tips::pascals;
+use norm_tip_reads::pascals;
 use record_pile_ranges::pile_refusal;
 use record_piles::take_pile;
 use record_slice_table::clear_table;

@@ -126,22 +126,3 @@ pub fn tip_resistance(depth: u64, index: u8) -> TipRead
     let p = norm_spots::spot(&DEPTHS, 1000, 8, 5, depth, norm_columns::past(100, index));
     tip_at(&ROWS, p)
 }
-
-// The R that was read; 0 of a dash.
-pub fn pascals(read: TipRead) -> u64
-    ensures { λ r. ⌜ r ≡ numbers.pascals read ⌝ }
-{
-    match read {
-        TipRead::Dashed => 0,
-        TipRead::Pascals(r) => r,
-    }
-}
-
-pub fn is_dash(read: TipRead) -> bool
-    ensures { λ r. ⌜ r ≡ numbers.isDash read ⌝ }
-{
-    match read {
-        TipRead::Dashed => true,
-        TipRead::Pascals(_) => false,
-    }
-}

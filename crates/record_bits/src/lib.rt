@@ -3,7 +3,9 @@ ghost use mathlib.Core.Path.{_≡_};
 ghost use Prim.Native.Nat.{_+_, _^_, _≤_, _<_};
 ghost use Rattle.record_bits.specs.Word.{wordBits, Taken, Written};
 
-pub const WORD_BITS: usize = 64;
+pub const WORD_SIZE: usize = 8;
+
+pub const WORD_BITS: usize = WORD_SIZE * 8;
 
 // A record's bytes as one number, the first the most significant, and the bit at which the next field begins,
 // counted from the top of the word: eight bytes begin at bit 0, five at bit 24.

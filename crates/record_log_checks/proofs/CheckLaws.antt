@@ -18,21 +18,6 @@ use Rattle.rules.proofs.RefusalLaws.{first-off, first-left, first-right}
 use Rattle.record_log_checks.specs.declared.Checked.{Checked}
 use Rattle.record_log_checks.specs.Checks.{rowsChecked, fieldsChecked, contentChecked}
 
--- 2, by the limit that the log's length tells
-module _ (s : List ℕ) (limit : ℕ) (e : limit ≡ formBy logSize forms (length s)) where
-  pub count-unused : countWrong limit (countOf s) ≡ true → true ≡ unusedWrong s
-  unfolding unusedWrong limitOf
-  count-unused w = rw (← e, w)
-
-  pub then-unused : (at : ℕ) → countWrong limit (countOf s) ≡ false → at ≡ 1 + countOf s * rowSize → neg (allZero (drop at s)) ≡ unusedWrong s
-  unfolding unusedWrong limitOf
-  then-unused at w a = rw (← e, w, a)
-
-  -- and 1 of a log that is read
-  pub form : (limit ≡ 0 → ⊥) → 0 < limitOf s
-  unfolding limitOf
-  form h = omega (arith, h)
-
 -- where 2 passes, 3
 module _ (s : List ℕ) where
   pub unused-refused : unusedWrong s ≡ true → _≡_ {A = Checked} (record { refusal = refuse 2; depth = 0 }) (fieldsChecked s)

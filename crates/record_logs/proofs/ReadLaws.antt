@@ -23,7 +23,7 @@ use Rattle.rules.proofs.Basics.{both-left, both-right, rows-length}
 use Rattle.rules.proofs.FormLaws.{limit-most}
 use Rattle.rules.proofs.PlacesLaws.{rows-part}
 use Rattle.rules.proofs.WidthLaws.{join-same}
-use Rattle.record_log_checks.proofs.CountLaws.{counted, inside}
+use Rattle.record_unused.proofs.CountLaws.{counted, inside}
 use Rattle.record_log_checks.proofs.RowsLaws.{wrong-here, wrong-below, rest, left-row}
 use Rattle.record_logs.specs.Rows.{rowsRead}
 

@@ -2,10 +2,10 @@
 use base_replies::refuse;
 use record_lengths::row_limit;
 use record_log_checks::row_refusal;
-use record_log_checks::unused_wrong;
 use record_row_ranges::row_field;
 use record_rows::no_row;
 use record_rows::row_inside;
+use record_unused::unused_wrong;
 use rules::Log;
 use rules::LogRead;
 use rules::ROW_LIMIT;

@@ -23,7 +23,7 @@ use Rattle.rules.proofs.PlacesLaws.{log-blank, log-whole}
 use Rattle.rules.proofs.RangeLaws.{Fit, fit-of, of-fit, fit-at}
 use Rattle.rules.proofs.InRangeLaws.{rows-right, row-in-range}
 use Rattle.rules.proofs.RefusalLaws.{first-off, when-off}
-use Rattle.record_log_checks.proofs.CountLaws.{counted}
+use Rattle.record_unused.proofs.CountLaws.{counted}
 use Rattle.record_logs.proofs.ReadLaws.{padded}
 
 -- rows that are all zero

@@ -5,7 +5,7 @@ use record_bits::Cursor;
 use record_bits::put_bits;
 use record_bits::take_bits;
 use record_pile_ranges::pile_refusal;
-use record_words::bytes_of;
+use record_word_bytes::bytes_of;
 use record_words::word_of;
 use rules::PILE_A;
 use rules::PILE_B;

@@ -2,7 +2,7 @@
 use record_bits::Cursor;
 use record_bits::WORD_BITS;
 use record_bits::put_bits;
-use record_words::bytes_of;
+use record_word_bytes::bytes_of;
 use rules::ROW_INDEX;
 use rules::ROW_KIND;
 use rules::ROW_SATURATION;

@@ -3,7 +3,7 @@ use record_bits::Cursor;
 use record_bits::put_bits;
 use record_bits::take_bits;
 use record_lengths::table_limit;
-use record_words::bytes_of;
+use record_word_bytes::bytes_of;
 use record_words::word_of;
 use rules::MORE_PLACES;
 use rules::SLICE_FACTOR;

@@ -1,12 +1,10 @@
--- Bytes as one number, as the code adds them up, and a number's bytes, as it divides.
+-- Bytes as one number, as the code adds them up.
 use mathlib.Core.Path.{_≡_}
-use mathlib.Core.List.{List, [], _∷_}
-use Prim.Native.Nat.{ℕ, _+_, _*_, _/_, _%_}
-use native.Mathlib.Nat.{div-div-eq-div-mul, div-one}
+use mathlib.Core.List.{List}
+use Prim.Native.Nat.{ℕ, _+_, _*_}
 use native.Mathlib.Omega.{arith}
 use lib.ListN.{getD}
 use lib.Seq.{getD-drop}
-use Rattle.rules.specs.Widths.{fieldsOf, bytes}
 use Rattle.rules.specs.Records.{rowSize}
 use Rattle.rules.specs.Packed.{numberAt}
 use Rattle.record_bits.specs.Word.{wordSize, windowAt}
@@ -19,8 +17,3 @@ five-are s = simp getD-drop (omega arith)
 pub eight-are : (s : List ℕ) → windowAt s 0 * 4294967296 + windowAt s 4 ≡ numberAt s 0 wordSize
 unfolding numberAt
 eight-are s = simp getD-drop (omega arith)
-
-pub bytes-are : (w : ℕ)
-    → w / 256 / 256 / 256 / 256 / 256 / 256 / 256 % 256 ∷ w / 256 / 256 / 256 / 256 / 256 / 256 % 256 ∷ w / 256 / 256 / 256 / 256 / 256 % 256 ∷ w / 256 / 256 / 256 / 256 % 256
-    ∷ w / 256 / 256 / 256 % 256 ∷ w / 256 / 256 % 256 ∷ w / 256 % 256 ∷ w % 256 ∷ [] ≡ fieldsOf (bytes wordSize) w
-bytes-are w = simp (div-div-eq-div-mul, div-one)

@@ -1,17 +1,14 @@
-// The bytes of a record as one number, the first the most significant, and back.
+// The bytes of a record as one number, the first the most significant.
 use base_copies::copy_in;
 use base_order::wide;
-use record_bits::WORD_BITS;
+use record_bits::WORD_SIZE;
 use rules::ROW_SIZE;
 ghost use mathlib.Core.Path.{_≡_};
 ghost use Prim.Native.Nat.{_+_, _*_, _^_, _≤_, _<_};
 ghost use lib.ListN.{length};
-ghost use Rattle.rules.specs.Widths.{fieldsOf, bytes};
 ghost use Rattle.rules.specs.Records.{rowSize};
 ghost use Rattle.rules.specs.Packed.{numberAt};
 ghost use Rattle.record_bits.specs.Word.{wordSize, windowAt, Padded};
-
-const WORD_SIZE: usize = WORD_BITS / 8;
 
 // Four bytes as one number.
 fn joined(a: u64, b: u64, c: u64, d: u64) -> u64
@@ -76,26 +73,4 @@ pub fn word_of(s: &[u8]) -> u64
     }
     let b = padded(s);
     whole_word(&b)
-}
-
-pub fn bytes_of(w: u64) -> [u8; WORD_SIZE]
-    ensures { λ r. ⌜ r ≡ fieldsOf (bytes wordSize) w ⌝ }
-{
-    let g = w / 256;
-    let f = g / 256;
-    let e = f / 256;
-    let d = e / 256;
-    let c = d / 256;
-    let b = c / 256;
-    let a = b / 256;
-    [
-        (a % 256) as u8,
-        (b % 256) as u8,
-        (c % 256) as u8,
-        (d % 256) as u8,
-        (e % 256) as u8,
-        (f % 256) as u8,
-        (g % 256) as u8,
-        (w % 256) as u8,
-    ]
 }

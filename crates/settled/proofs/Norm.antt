@@ -8,6 +8,7 @@ use Rattle.norm_spots.proofs as norm-spots
 use Rattle.norm_friction_table.proofs as norm-friction-table
 use Rattle.norm_friction.proofs as norm-friction
 use Rattle.norm_tips.proofs as norm-tips
+use Rattle.norm_tip_reads.proofs as norm-tip-reads
 use Rattle.norm_factors.proofs as norm-factors
 
 pub past : Settled norm-columns.past.Kinds.ps norm-columns.past.Kinds.r norm-columns.past.Reads.Pre norm-columns.past.Reads.Learnt
@@ -43,10 +44,10 @@ friction _ _ _ h g = cc
 pub tip-resistance : Settled norm-tips.tip_resistance.Kinds.ps norm-tips.tip_resistance.Kinds.r norm-tips.tip_resistance.Reads.Pre norm-tips.tip_resistance.Reads.Learnt
 tip-resistance _ _ _ h g = cc
 
-pub pascals : Settled norm-tips.pascals.Kinds.ps norm-tips.pascals.Kinds.r norm-tips.pascals.Reads.Pre norm-tips.pascals.Reads.Learnt
+pub pascals : Settled norm-tip-reads.pascals.Kinds.ps norm-tip-reads.pascals.Kinds.r norm-tip-reads.pascals.Reads.Pre norm-tip-reads.pascals.Reads.Learnt
 pascals _ _ _ h g = cc
 
-pub is-dash : Settled norm-tips.is_dash.Kinds.ps norm-tips.is_dash.Kinds.r norm-tips.is_dash.Reads.Pre norm-tips.is_dash.Reads.Learnt
+pub is-dash : Settled norm-tip-reads.is_dash.Kinds.ps norm-tip-reads.is_dash.Kinds.r norm-tip-reads.is_dash.Reads.Pre norm-tip-reads.is_dash.Reads.Learnt
 is-dash _ _ _ h g = cc
 
 pub factor : Settled norm-factors.factor.Kinds.ps norm-factors.factor.Kinds.r norm-factors.factor.Reads.Pre norm-factors.factor.Reads.Learnt

@@ -5,11 +5,13 @@ use Rattle.record_bits.specs.declared.Bits.{Bits}
 use Rattle.settled.proofs.Settled.{Settled}
 use Rattle.record_bits.proofs as record-bits
 use Rattle.record_words.proofs as record-words
+use Rattle.record_word_bytes.proofs as record-word-bytes
 use Rattle.record_row_ranges.proofs as record-row-ranges
 use Rattle.record_pile_ranges.proofs as record-pile-ranges
 use Rattle.record_row_bytes.proofs as record-row-bytes
 use Rattle.record_rows.proofs as record-rows
 use Rattle.record_lengths.proofs as record-lengths
+use Rattle.record_unused.proofs as record-unused
 use Rattle.record_log_checks.proofs as record-log-checks
 use Rattle.record_logs.proofs as record-logs
 use Rattle.record_packing.proofs as record-packing
@@ -38,7 +40,7 @@ five-of _ _ _ h g = cc
 pub word-of : Settled record-words.word_of.Kinds.ps record-words.word_of.Kinds.r record-words.word_of.Reads.Pre record-words.word_of.Reads.Learnt
 word-of _ _ _ h g = cc
 
-pub bytes-of : Settled record-words.bytes_of.Kinds.ps record-words.bytes_of.Kinds.r record-words.bytes_of.Reads.Pre record-words.bytes_of.Reads.Learnt
+pub bytes-of : Settled record-word-bytes.bytes_of.Kinds.ps record-word-bytes.bytes_of.Kinds.r record-word-bytes.bytes_of.Reads.Pre record-word-bytes.bytes_of.Reads.Learnt
 bytes-of _ _ _ h g = cc
 
 pub row-zero : Settled record-row-ranges.row_zero.Kinds.ps record-row-ranges.row_zero.Kinds.r record-row-ranges.row_zero.Reads.Pre record-row-ranges.row_zero.Reads.Learnt
@@ -77,10 +79,10 @@ lengths-wrong _ _ _ h g = cc
 pub row-refusal : Settled record-log-checks.row_refusal.Kinds.ps record-log-checks.row_refusal.Kinds.r record-log-checks.row_refusal.Reads.Pre record-log-checks.row_refusal.Reads.Learnt
 row-refusal _ _ _ h g = cc
 
-pub count-wrong : Settled record-log-checks.count_wrong.Kinds.ps record-log-checks.count_wrong.Kinds.r record-log-checks.count_wrong.Reads.Pre record-log-checks.count_wrong.Reads.Learnt
+pub count-wrong : Settled record-unused.count_wrong.Kinds.ps record-unused.count_wrong.Kinds.r record-unused.count_wrong.Reads.Pre record-unused.count_wrong.Reads.Learnt
 count-wrong _ _ _ h g = cc
 
-pub unused-wrong : Settled record-log-checks.unused_wrong.Kinds.ps record-log-checks.unused_wrong.Kinds.r record-log-checks.unused_wrong.Reads.Pre record-log-checks.unused_wrong.Reads.Learnt
+pub unused-wrong : Settled record-unused.unused_wrong.Kinds.ps record-unused.unused_wrong.Kinds.r record-unused.unused_wrong.Reads.Pre record-unused.unused_wrong.Reads.Learnt
 unused-wrong _ _ _ h g = cc
 
 pub check-content : Settled record-log-checks.check_content.Kinds.ps record-log-checks.check_content.Kinds.r record-log-checks.check_content.Reads.Pre record-log-checks.check_content.Reads.Learnt

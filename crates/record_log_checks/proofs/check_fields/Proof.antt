@@ -3,7 +3,7 @@ use mathlib.Core.Path.{sym, _∙_}
 use native.Mathlib.Omega.{arith}
 use Rattle.rules.proofs.FormLaws.{limit-long}
 use Rattle.record_log_checks.proofs.CheckLaws.{unused-refused, then-rows}
-use Rattle.record_log_checks.proofs.CountLaws.{inside}
+use Rattle.record_unused.proofs.CountLaws.{inside}
 use borrow.Author.Needs.{needs}
 use Rattle.record_log_checks.proofs.check_fields.Statement.{statement}
 use Rattle.record_log_checks.proofs.check_fields.Tie as tie

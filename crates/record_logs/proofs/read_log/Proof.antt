@@ -1,6 +1,6 @@
 -- Check 1 by the row limit that the length tells, then check 2; where neither refuses, the rows are checked as they are read.
 use mathlib.Core.Path.{ap, sym, _∙_}
-use Rattle.record_log_checks.proofs.CheckLaws.{form}
+use Rattle.record_unused.proofs.CountLaws.{form}
 use Rattle.record_logs.proofs.ReadLaws.{no, read-formless, read-unused, read-rows}
 use borrow.Author.Needs.{needs}
 use Rattle.record_logs.proofs.read_log.Statement.{statement}

@@ -7,7 +7,7 @@ use lib.ListN.{replicate}
 use Rattle.rules.specs.declared.Refusal.{Refusal}
 use Rattle.rules.specs.Limits.{rowLimit}
 use Rattle.rules.specs.Packed.{countOf}
-use Rattle.record_log_checks.proofs.CountLaws.{inside}
+use Rattle.record_unused.proofs.CountLaws.{inside}
 use Rattle.record_logs.proofs.ReadLaws.{no, Reading, reading-start, reading-wrong, reading-more, reading-end}
 use borrow.Author.Needs.{needs}
 use Rattle.record_logs.proofs.read_rows.Statement.{statement}

@@ -3,10 +3,10 @@ use mathlib.Core.Path.{refl, ap}
 use Prim.Native.Nat.{_-_}
 use lib.ListN.{length}
 use Rattle.rules.specs.Base.{neg}
-use Rattle.record_log_checks.proofs.BlankLaws.{Joined, joined-more, joined-end}
+use Rattle.record_unused.proofs.BlankLaws.{Joined, joined-more, joined-end}
 use borrow.Author.Needs.{needs}
-use Rattle.record_log_checks.proofs.any_from.Statement.{statement}
-use Rattle.record_log_checks.proofs.any_from.Tie as tie
+use Rattle.record_unused.proofs.any_from.Statement.{statement}
+use Rattle.record_unused.proofs.any_from.Tie as tie
 
 abbrev Inv-loop : tie.InvT-loop
 Inv-loop s from any₀ i₀ any i = Joined s from any i

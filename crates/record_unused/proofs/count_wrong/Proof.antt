@@ -1,7 +1,7 @@
 -- The first test is whether the count is 0; where it is not, the second is what is left.
 use borrow.Author.Tests.{eq-eqb, ne-eqb}
-use Rattle.record_log_checks.proofs.count_wrong.Statement.{statement}
-use Rattle.record_log_checks.proofs.count_wrong.Tie as tie
+use Rattle.record_unused.proofs.count_wrong.Statement.{statement}
+use Rattle.record_unused.proofs.count_wrong.Tie as tie
 
 returns : tie.Need-returns
 returns c = rw (eq-eqb _ _ (c .if1 .taken))

@@ -2,10 +2,10 @@
 use mathlib.Core.Path.{sym, _∙_}
 use native.Mathlib.Omega.{arith}
 use Rattle.rules.proofs.FormLaws.{limit-long}
-use Rattle.record_log_checks.proofs.CheckLaws.{count-unused, then-unused}
+use Rattle.record_unused.proofs.CountLaws.{count-unused, then-unused}
 use borrow.Author.Needs.{needs}
-use Rattle.record_log_checks.proofs.unused_wrong.Statement.{statement}
-use Rattle.record_log_checks.proofs.unused_wrong.Tie as tie
+use Rattle.record_unused.proofs.unused_wrong.Statement.{statement}
+use Rattle.record_unused.proofs.unused_wrong.Tie as tie
 
 shared-slice-read-n : tie.Need-shared-slice-read-n
 shared-slice-read-n c = omega (arith, limit-long _ (c .before .before .pre))

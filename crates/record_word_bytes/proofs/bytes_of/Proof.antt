@@ -1,8 +1,8 @@
 -- Each division by 256 drops the last byte, and the remainder by 256 is the last byte of what is left.
-use Rattle.record_words.proofs.NumberLaws.{bytes-are}
+use Rattle.record_word_bytes.proofs.ByteLaws.{bytes-are}
 use borrow.Author.Needs.{needs}
-use Rattle.record_words.proofs.bytes_of.Statement.{statement}
-use Rattle.record_words.proofs.bytes_of.Tie as tie
+use Rattle.record_word_bytes.proofs.bytes_of.Statement.{statement}
+use Rattle.record_word_bytes.proofs.bytes_of.Tie as tie
 
 returns : tie.Need-returns
 returns c = bytes-are _

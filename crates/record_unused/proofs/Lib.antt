@@ -1,0 +1,3 @@
+-- Laws of a log's count and its unused places.
+pub mod BlankLaws
+pub mod CountLaws
