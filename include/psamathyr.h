@@ -4,11 +4,15 @@
  * needs length 0. The pieces of one call must not overlap. Nothing is stored between calls, nothing is allocated, and calls from
  * several threads on different buffers do not meet.
  *
- * Refusals: 1 a lent piece has the wrong length; 2 count 0 or over 64, or an unused row place not zero; 3 a row's field out of range
- * (row and field given); 4 log over 60,000 mm; 5 section kind, a, b or zero bits wrong (field 1 to 4); 6 method wrong; 7 head not above
- * tip, or tip under 3,000 or over 40,000 mm; 8 log ends less than 5,000 mm below the tip; 9 sand just below the tip; 10 seat too short;
- * 11 tip liquidity index over 0.60; 12 a dash of the tip table would be read; 13 no such edit, row or split point; 14 no place for
- * another row; 15 more than 83 slices. 0 is no refusal.
+ * A pile record has 8 bytes or, with the grade of its site, 10; calls take both. Depths count from natural ground. The tables are read at
+ * depths that a cut of over 3,000 mm lowers, and a fill of over 3,000 mm raises, by what it has over 3,000 mm.
+ *
+ * Refusals: 1 a lent piece has the wrong length, or a grade other than 0 is to be packed to 8 bytes; 2 count 0 or over 64, or an unused
+ * row place not zero; 3 a row's field out of range (row and field given); 4 log over 60,000 mm; 5 section kind, a, b or zero bits wrong
+ * (field 1 to 4); 6 method wrong; 7 head not above tip, tip under 3,000 or over 40,000 mm, head above the cut level, or tip's depth as read
+ * over 40,000 mm; 8 log ends less than 5,000 mm below the tip; 9 sand just below the tip; 10 seat too short; 11 tip liquidity index over
+ * 0.60; 12 a dash of the tip table would be read; 13 no such edit, row or split point; 14 no place for another row; 15 more than 83 slices.
+ * 0 is no refusal.
  */
 #ifndef PSAMATHYR_H
 #define PSAMATHYR_H
@@ -23,6 +27,7 @@ extern "C" {
 enum {
     PSAMATHYR_LOG_BYTES = 321,
     PSAMATHYR_PILE_BYTES = 8,
+    PSAMATHYR_GRADED_PILE_BYTES = 10,
     PSAMATHYR_TABLE_BYTES = 581,
     PSAMATHYR_ROW_BYTES = 5,
     PSAMATHYR_ROWS = 64,
@@ -50,14 +55,16 @@ typedef struct {
     psamathyr_row rows[64];
 } psamathyr_log;
 
-/* section 1 circle (a the diameter, b 0), 2 rectangle; method 1 to 3; all depths in mm */
+/* length of the record that was read, 8 or 10; section 1 circle (a the diameter, b 0), 2 rectangle; method 1 to 3; all depths in mm;
+ * grade in mm: a cut negative, a fill positive, 0 where the record has 8 bytes */
 typedef struct {
     uint32_t refusal, row, field;
-    uint8_t section;
+    uint8_t length, section;
     uint16_t a, b;
     uint8_t method;
     uint16_t head, tip;
     uint8_t zero;
+    int16_t grade;
 } psamathyr_pile;
 
 /* top and thickness in mm, friction in 1/200 Pa, factor in tenths */
@@ -78,14 +85,15 @@ psamathyr_answer psamathyr_edit(uint8_t *log, size_t log_len, const uint8_t *pil
                                 uint8_t *table, size_t table_len, uint32_t kind, uint32_t k, uint32_t x,
                                 const uint8_t *row, size_t row_len);
 
-/* A refused reading gives zero fields. */
+/* A refused reading gives zero fields, the length of a pile record among them. */
 psamathyr_log psamathyr_read_log(const uint8_t *log, size_t log_len);
 psamathyr_pile psamathyr_read_pile(const uint8_t *pile, size_t pile_len);
 
 /* place from 0; past the last: all zero */
 psamathyr_slice psamathyr_read_slice(const uint8_t *table, size_t table_len, uint32_t place);
 
-/* Looks at count and rows only, or at section to zero only. A refused packing changes no byte. Replies with refusal, row and field. */
+/* Looks at count and rows only, or at section to grade only: a pile record is packed to as many bytes as are lent. A refused packing
+ * changes no byte. Replies with refusal, row and field. */
 psamathyr_answer psamathyr_pack_log(psamathyr_log fields, uint8_t *log, size_t log_len);
 psamathyr_answer psamathyr_pack_pile(psamathyr_pile fields, uint8_t *pile, size_t pile_len);
 

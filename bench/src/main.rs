@@ -301,20 +301,68 @@ mod tests {
         assert!(scenes().iter().all(same));
     }
 
-    #[test]
-    fn known_numbers() {
-        let pile = pile_of(1, 1_000, 10_000);
-        let mut table = [9; TABLE];
-        let answer = plain::calculate(&log_of(&[(20_000, 6, 130, 95)]), &pile, &mut table);
-        let numbers = [
+    fn five(answer: &Answer) -> [u64; 5] {
+        [
             answer.line,
             answer.tip,
             answer.shaft,
             answer.capacity,
             answer.uplift,
-        ];
-        assert_eq!(numbers, [212_100, 268_605, 399_798, 668_403, 319_838]);
+        ]
+    }
+
+    #[test]
+    fn known_numbers() {
+        let pile = pile_of(1, 1_000, 10_000);
+        let mut table = [9; TABLE];
+        let answer = plain::calculate(&log_of(&[(20_000, 6, 130, 95)]), &pile, &mut table);
+        let numbers = [212_100, 268_605, 399_798, 668_403, 319_838];
+        assert_eq!(five(&answer), numbers);
         assert_eq!(table[..7], [0x03, 0xE8, 0xFA, 0x05, 0xB8, 0xD8, 0x06]);
         assert_eq!(used(&table), 5);
+    }
+
+    /// A pile in so much of case A's clay, on a graded site: the refusal and the five numbers, the same after an edit.
+    fn graded(clay: u64, head: u64, tip: u64, grade: i16) -> (u32, [u64; 5]) {
+        let row = (clay, 6, 130, 95);
+        let mut pile = pile_of(1, head, tip).to_vec();
+        pile.extend(grade.to_be_bytes());
+        let mut log = log_of(&[row]);
+        let mut table = [9; TABLE];
+        let answer = plain::calculate(&log, &pile, &mut table);
+        let row = row_bytes(row);
+        let again = plain::edit(&mut log, &pile, &mut table, 1, 1, 0, &row);
+        assert_eq!(five(&again), five(&answer));
+        assert_eq!(again.kept as usize, used(&table));
+        (answer.refusal, five(&answer))
+    }
+
+    #[test]
+    fn graded_numbers() {
+        let numbers = [212_100, 268_605, 399_798, 668_403, 319_838];
+        for grade in [-1_000, 0, 3_000] {
+            assert_eq!(graded(20_000, 1_000, 10_000, grade), (0, numbers));
+        }
+        let numbers = [212_111, 268_627, 399_819, 668_446, 319_855];
+        assert_eq!(graded(20_000, 1_000, 10_000, 3_001), (0, numbers));
+        let numbers = [232_500, 311_017, 438_251, 749_268, 350_600];
+        assert_eq!(graded(20_000, 1_000, 10_000, 5_000), (0, numbers));
+        let numbers = [176_100, 268_605, 331_940, 600_545, 265_552];
+        assert_eq!(graded(20_000, 5_000, 12_000, -5_000), (0, numbers));
+    }
+
+    #[test]
+    fn graded_refusals() {
+        assert_eq!(graded(20_000, 1_000, 10_000, -1_001), (7, [0; 5]));
+        assert_eq!(graded(35_000, 1_000, 30_000, 13_000).0, 0);
+        assert_eq!(graded(35_000, 1_000, 30_000, 13_001), (7, [0; 5]));
+        assert_eq!(graded(45_001, 1_000, 40_001, -1_000), (7, [0; 5]));
+        assert_eq!(graded(45_000, 1_000, 40_000, i16::MIN), (7, [0; 5]));
+        assert_eq!(graded(45_000, 1_000, 40_000, i16::MAX), (7, [0; 5]));
+        for length in [0, 7, 9, 11] {
+            let mut table = [9; TABLE];
+            let answer = plain::calculate(&log_of(&[]), &vec![0; length], &mut table);
+            assert_eq!((answer.refusal, table), (1, [9; TABLE]));
+        }
     }
 }

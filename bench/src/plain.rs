@@ -6,7 +6,9 @@ mod ground;
 mod tables;
 
 use ground::{change, fresh, ground_of, index_of, kind_of, saturation_of, Ground};
-use psamathyr_door::{Answer, LOG_BYTES as LOG, PILE_BYTES as PILE, TABLE_BYTES as TABLE};
+use psamathyr_door::{
+    Answer, GRADED_PILE_BYTES, LOG_BYTES as LOG, PILE_BYTES, TABLE_BYTES as TABLE,
+};
 use tables::{friction, tip_resistance, FACTORS};
 
 /// A refusal's answer.
@@ -27,17 +29,17 @@ const fn refused(refusal: u32, row: u32, field: u32) -> Answer {
 pub fn calculate(log: &[u8], pile: &[u8], table: &mut [u8]) -> Answer {
     let (log, pile, table) = match (
         <&[u8; LOG]>::try_from(log),
-        <&[u8; PILE]>::try_from(pile),
+        record_of(pile),
         <&mut [u8; TABLE]>::try_from(table),
     ) {
-        (Ok(log), Ok(pile), Ok(table)) => (log, pile, table),
+        (Ok(log), Some(pile), Ok(table)) => (log, pile, table),
         _ => return refused(1, 0, 0),
     };
     let mut ground = fresh();
     if let Err(no) = ground_of(log, &mut ground) {
         return no;
     }
-    match work_out::<false>(&ground, u64::from_be_bytes(*pile), table) {
+    match work_out::<false>(&ground, pile, table) {
         Ok(answer) => answer,
         Err(number) => emptied(table, number),
     }
@@ -54,10 +56,10 @@ pub fn edit(
 ) -> Answer {
     let (log, pile, table) = match (
         <&mut [u8; LOG]>::try_from(log),
-        <&[u8; PILE]>::try_from(pile),
+        record_of(pile),
         <&mut [u8; TABLE]>::try_from(table),
     ) {
-        (Ok(log), Ok(pile), Ok(table)) => (log, pile, table),
+        (Ok(log), Some(pile), Ok(table)) => (log, pile, table),
         _ => return refused(1, 0, 0),
     };
     let row = match <&[u8; 5]>::try_from(row) {
@@ -72,7 +74,7 @@ pub fn edit(
     if let Err(no) = change(log, &mut ground, kind, k, x, &row) {
         return no;
     }
-    match work_out_again(&ground, u64::from_be_bytes(*pile), table) {
+    match work_out::<true>(&ground, pile, table) {
         Ok(answer) => answer,
         Err(number) => emptied(table, number),
     }
@@ -85,6 +87,21 @@ fn emptied(table: &mut [u8; TABLE], number: u32) -> Answer {
     refused(number & 0xFF, 0, number >> 8)
 }
 
+/// A pile record of either length: its first eight bytes as a number, and its grade.
+type Record = (u64, i16);
+
+#[inline(always)]
+fn record_of(pile: &[u8]) -> Option<Record> {
+    if let Ok(pile) = <&[u8; PILE_BYTES]>::try_from(pile) {
+        return Some((u64::from_be_bytes(*pile), 0));
+    }
+    let [fields @ .., high, low] = <&[u8; GRADED_PILE_BYTES]>::try_from(pile).ok()?;
+    Some((
+        u64::from_be_bytes(*fields),
+        i16::from_be_bytes([*high, *low]),
+    ))
+}
+
 /// The fields of a pile record.
 struct Pile {
     section: u32,
@@ -93,31 +110,46 @@ struct Pile {
     method: usize,
     head: u32,
     tip: u32,
+    /// A cut is negative, a fill positive.
+    grade: i32,
+}
+
+impl Pile {
+    /// How much deeper than it is a depth is read: what the grade has over 3,000.
+    #[inline(always)]
+    fn deeper(&self) -> i32 {
+        self.grade - self.grade.clamp(-3_000, 3_000)
+    }
+
+    /// The tip's depth as read. Where that is no depth, the number is huge and check 7 refuses: the head is then above the cut level or
+    /// not above the tip.
+    #[inline(always)]
+    fn tip_read(&self) -> u32 {
+        (self.tip as i32 + self.deeper()) as u32
+    }
 }
 
 /// Checks 5 to 12 and 15, the slices and the numbers; a refusal is its number
-/// plus 256 times its field.
-#[inline]
+/// plus 256 times its field. By itself it is quicker than within its callers.
+#[inline(never)]
 fn work_out<const KEPT: bool>(
     ground: &Ground,
-    pile: u64,
+    pile: Record,
     table: &mut [u8; TABLE],
 ) -> Result<Answer, u32> {
     let pile = pile_of(pile)?;
     let below = tip_soil(ground, &pile)?;
-    let (sum, kept) = shaft::<KEPT>(ground, &pile, table)?;
-    let resistance = tip_resistance(pile.tip, index_of(below));
+    let (sum, kept) = match pile.deeper() {
+        0 => shaft::<KEPT>(ground, &pile, table, 0)?,
+        deeper => graded_shaft::<KEPT>(ground, &pile, table, deeper)?,
+    };
+    let resistance = tip_resistance(pile.tip_read(), index_of(below));
     Ok(numbers(&pile, below, sum / 2_000_000, resistance, kept))
-}
-
-/// The same after an edit.
-fn work_out_again(ground: &Ground, pile: u64, table: &mut [u8; TABLE]) -> Result<Answer, u32> {
-    work_out::<true>(ground, pile, table)
 }
 
 /// Checks 5 and 6.
 #[inline(always)]
-fn pile_of(pile: u64) -> Result<Pile, u32> {
+fn pile_of((pile, grade): Record) -> Result<Pile, u32> {
     let section = (pile >> 62) as u32;
     let a = (pile >> 50) as u32 & 0xFFF;
     let b = (pile >> 38) as u32 & 0xFFF;
@@ -145,16 +177,26 @@ fn pile_of(pile: u64) -> Result<Pile, u32> {
         method,
         head,
         tip,
+        grade: i32::from(grade),
     })
+}
+
+/// Check 7.
+#[inline(always)]
+fn depths_fit(pile: &Pile) -> bool {
+    pile.head < pile.tip
+        && (3_000..=40_000).contains(&pile.tip)
+        && pile.head as i32 + pile.grade >= 0
+        && pile.tip_read() <= 40_000
 }
 
 /// Checks 7 to 12; gives the soil of the millimetre just below the tip.
 #[inline(always)]
 fn tip_soil(ground: &Ground, pile: &Pile) -> Result<u32, u32> {
-    let (head, tip) = (pile.head, pile.tip);
-    if head >= tip || !(3_000..=40_000).contains(&tip) {
+    if !depths_fit(pile) {
         return Err(7);
     }
+    let (head, tip) = (pile.head, pile.tip);
     if ground.depth < tip + 5_000 {
         return Err(8);
     }
@@ -183,7 +225,7 @@ fn tip_soil(ground: &Ground, pile: &Pile) -> Result<u32, u32> {
     if index > 160 {
         return Err(11);
     }
-    if index > 140 && tip > 20_000 {
+    if index > 140 && pile.tip_read() > 20_000 {
         return Err(12);
     }
     Ok(below)
@@ -224,20 +266,19 @@ fn shaft<const KEPT: bool>(
     ground: &Ground,
     pile: &Pile,
     table: &mut [u8; TABLE],
+    deeper: i32,
 ) -> Result<(u64, usize), u32> {
     let factors = &FACTORS[pile.method];
     let (mut sum, mut slices, mut kept) = (0, 0, 0);
     let (mut row, mut top) = (0, 0);
     while top < pile.tip {
         let soil = ground.soil[row];
-        let mut bottom = top;
+        let mut at = top.max(pile.head);
         while row < ground.count && ground.soil[row] == soil {
-            bottom += u32::from(ground.thickness[row]);
+            top += u32::from(ground.thickness[row]);
             row += 1;
         }
-        let mut at = top.max(pile.head);
-        let end = bottom.min(pile.tip);
-        top = bottom;
+        let end = top.min(pile.tip);
         if at >= end {
             continue;
         }
@@ -245,7 +286,8 @@ fn shaft<const KEPT: bool>(
         let factor = u64::from(factors[kind_of(soil) as usize]);
         while at < end {
             let thickness = (end - at).min(2_000);
-            let friction = u64::from(friction(2 * at + thickness, column, tenth));
+            let middle = (2 * at + thickness) as i32 + 2 * deeper;
+            let friction = u64::from(friction(middle as u32, column, tenth));
             sum += friction * u64::from(thickness) * factor;
             let bytes = slice_bytes(at, thickness, friction, factor);
             let place = place_of(table, slices)?;
@@ -259,6 +301,17 @@ fn shaft<const KEPT: bool>(
     }
     table[7 * slices..].fill(0);
     Ok((sum, kept))
+}
+
+/// The same where depths are read deeper or less deep; by itself, since few sites are graded so much.
+#[inline(never)]
+fn graded_shaft<const KEPT: bool>(
+    ground: &Ground,
+    pile: &Pile,
+    table: &mut [u8; TABLE],
+    deeper: i32,
+) -> Result<(u64, usize), u32> {
+    shaft::<KEPT>(ground, pile, table, deeper)
 }
 
 /// The five numbers, each rounded down.

@@ -35,13 +35,15 @@ SIZE(psamathyr_pile, 28);
 OFFSET(psamathyr_pile, refusal, 0);
 OFFSET(psamathyr_pile, row, 4);
 OFFSET(psamathyr_pile, field, 8);
-OFFSET(psamathyr_pile, section, 12);
+OFFSET(psamathyr_pile, length, 12);
+OFFSET(psamathyr_pile, section, 13);
 OFFSET(psamathyr_pile, a, 14);
 OFFSET(psamathyr_pile, b, 16);
 OFFSET(psamathyr_pile, method, 18);
 OFFSET(psamathyr_pile, head, 20);
 OFFSET(psamathyr_pile, tip, 22);
 OFFSET(psamathyr_pile, zero, 24);
+OFFSET(psamathyr_pile, grade, 26);
 
 SIZE(psamathyr_slice, 16);
 OFFSET(psamathyr_slice, refusal, 0);
@@ -53,4 +55,5 @@ OFFSET(psamathyr_slice, factor, 12);
 /* What is lent is as long as the records that it holds. */
 _Static_assert(sizeof(((psamathyr_log *)0)->rows) == PSAMATHYR_ROWS * sizeof(psamathyr_row), "rows of psamathyr_log");
 _Static_assert(PSAMATHYR_LOG_BYTES == 1 + PSAMATHYR_ROWS * PSAMATHYR_ROW_BYTES, "bytes of a log");
+_Static_assert(PSAMATHYR_GRADED_PILE_BYTES == PSAMATHYR_PILE_BYTES + sizeof(int16_t), "bytes of a pile record with a grade");
 _Static_assert(PSAMATHYR_TABLE_BYTES == PSAMATHYR_PLACES * 7, "bytes of a slice table");

@@ -1,5 +1,6 @@
 // The door of psamathyr.wasm for a page or Node: the seven functions over Uint8Arrays, which are copied in and, where the door writes to
-// them, copied back. In a page: `await open(await (await fetch("psamathyr.wasm")).arrayBuffer())`; in Node: `await open(readFileSync(path))`.
+// them, copied back. A pile record is lent as 8 bytes or, with the grade of its site, as 10. In a page:
+// `await open(await (await fetch("psamathyr.wasm")).arrayBuffer())`; in Node: `await open(readFileSync(path))`.
 
 const PAGE = 65536;
 
@@ -130,25 +131,29 @@ function logBytes(fields) {
 function pileOf(view) {
     return {
         ...refusalOf(view),
-        section: view.getUint8(12),
+        length: view.getUint8(12),
+        section: view.getUint8(13),
         a: view.getUint16(14, true),
         b: view.getUint16(16, true),
         method: view.getUint8(18),
         head: view.getUint16(20, true),
         tip: view.getUint16(22, true),
         zero: view.getUint8(24),
+        grade: view.getInt16(26, true),
     };
 }
 
+// What packing looks at: section to grade. Fields without a grade have grade 0.
 function pileBytes(fields) {
     const view = new DataView(new ArrayBuffer(SIZES.pile));
-    view.setUint8(12, fields.section);
+    view.setUint8(13, fields.section);
     view.setUint16(14, fields.a, true);
     view.setUint16(16, fields.b, true);
     view.setUint8(18, fields.method);
     view.setUint16(20, fields.head, true);
     view.setUint16(22, fields.tip, true);
     view.setUint8(24, fields.zero);
+    view.setInt16(26, fields.grade ?? 0, true);
     return new Uint8Array(view.buffer);
 }
 

@@ -72,16 +72,18 @@ class Reader {
 
     async pile() {
         const head = await this.refusal();
-        const part = await this.part(11);
+        const part = await this.part(14);
         return {
             ...head,
-            section: part[0],
-            a: part.readUInt16LE(1),
-            b: part.readUInt16LE(3),
-            method: part[5],
-            head: part.readUInt16LE(6),
-            tip: part.readUInt16LE(8),
-            zero: part[10],
+            length: part[0],
+            section: part[1],
+            a: part.readUInt16LE(2),
+            b: part.readUInt16LE(4),
+            method: part[6],
+            head: part.readUInt16LE(7),
+            tip: part.readUInt16LE(9),
+            zero: part[11],
+            grade: part.readInt16LE(12),
         };
     }
 

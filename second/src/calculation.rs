@@ -4,8 +4,8 @@
 
 use crate::fraction::Fraction;
 use crate::ground::{millimetres, pieces, strata, Piece, Soil, Stratum};
-use crate::records::{check_pile, depth, open_log, pile_fields, slice_bytes};
-use crate::{tables, Answer, Pile, Refusal, Row, Slice, PILE, SLICE, SLICES, TABLE};
+use crate::records::{check_pile, depth, is_pile_length, open_log, pile_fields, slice_bytes};
+use crate::{tables, Answer, Pile, Refusal, Row, Slice, SLICE, SLICES, TABLE};
 
 /// Works out a pile in a log and fills the table.
 pub fn calculate(log: &[u8], pile: &[u8], table: &mut [u8]) -> Answer {
@@ -20,7 +20,7 @@ pub fn calculate(log: &[u8], pile: &[u8], table: &mut [u8]) -> Answer {
 
 /// Checks 1 to 4 of what every calculation and edit is lent.
 fn lent(log: &[u8], pile: &[u8], table: &[u8]) -> Result<Vec<Row>, Refusal> {
-    if pile.len() != PILE || table.len() != TABLE {
+    if !is_pile_length(pile.len()) || table.len() != TABLE {
         return Err(Refusal::plain(1));
     }
     let rows = open_log(log)?;
@@ -84,11 +84,35 @@ fn ground(rows: &[Row], pile: &Pile) -> Result<Vec<Soil>, Refusal> {
     if pile.head >= pile.tip || !(3_000..=40_000).contains(&pile.tip) {
         return Err(Refusal::plain(7));
     }
+    if cut_away(pile) || as_read(metres(usize::from(pile.tip)), pile) > Fraction::whole(40) {
+        return Err(Refusal::plain(7));
+    }
     let ground = millimetres(rows);
     if ground.len() < usize::from(pile.tip) + 5_000 {
         return Err(Refusal::plain(8));
     }
     Ok(ground)
+}
+
+/// True if the head is above the cut level, so that a part of the pile would stand in the air.
+fn cut_away(pile: &Pile) -> bool {
+    let cut = -i32::from(pile.grade);
+    i32::from(pile.head) < cut
+}
+
+/// A depth in m as the tables read it: from natural ground where the grade is at most 3 m either way, else from 3 m above the cut level or
+/// from 3 m below the fill level.
+fn as_read(natural: Fraction, pile: &Pile) -> Fraction {
+    let fill = Fraction::new(i128::from(pile.grade), 1_000);
+    let cut = Fraction::ZERO - fill;
+    let three = Fraction::whole(3);
+    if cut > three {
+        natural - (cut - three)
+    } else if fill > three {
+        natural + (fill - three)
+    } else {
+        natural
+    }
 }
 
 /// Check 10: the tip stands deep enough in its stratum.
@@ -114,7 +138,7 @@ fn tip_resistance(below: Soil, pile: &Pile) -> Result<Fraction, Refusal> {
         return Err(Refusal::plain(11));
     }
     tables::tip()
-        .at(metres(usize::from(pile.tip)), below.index())
+        .at(as_read(metres(usize::from(pile.tip)), pile), below.index())
         .map_err(|tables::Dash| Refusal::plain(12))
 }
 
@@ -126,10 +150,7 @@ fn slices(strata: &[Stratum], pile: &Pile) -> Result<Vec<Slice>, Refusal> {
     if pieces.len() > SLICES {
         return Err(Refusal::plain(15));
     }
-    let slices: Vec<Slice> = pieces
-        .iter()
-        .map(|piece| slice(piece, pile.method))
-        .collect();
+    let slices: Vec<Slice> = pieces.iter().map(|piece| slice(piece, pile)).collect();
     let length: usize = slices
         .iter()
         .map(|slice| usize::from(slice.thickness))
@@ -179,17 +200,17 @@ fn section(pile: &Pile) -> (Fraction, Fraction) {
     }
 }
 
-fn slice(piece: &Piece, method: u8) -> Slice {
+fn slice(piece: &Piece, pile: &Pile) -> Slice {
     let middle = Fraction::new((2 * piece.top + piece.thickness) as i128, 2_000);
     let kilopascals = tables::friction()
-        .at(middle, friction_index(piece.soil))
+        .at(as_read(middle, pile), friction_index(piece.soil))
         .expect("no dash in this table");
     Slice {
         refusal: 0,
         top: piece.top as u16,
         thickness: piece.thickness as u16,
         friction: (kilopascals * Fraction::whole(200_000)).exactly() as u32,
-        factor: factor(method, piece.soil.kind()),
+        factor: factor(pile.method, piece.soil.kind()),
     }
 }
 

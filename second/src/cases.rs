@@ -1,8 +1,8 @@
-//! The known cases A to L with their printed numbers.
+//! The known cases A to L with their printed numbers, and case A on graded sites.
 
 #![forbid(unsafe_code)]
 
-use crate::{pile_bytes, row_bytes, Pile, Row, LOG, PILE};
+use crate::{pile_bytes, row_bytes, Pile, Row, GRADED_PILE, LOG};
 
 /// What a case must give: its five numbers, or a refusal.
 #[derive(Clone, Copy, Debug, PartialEq, Eq)]
@@ -16,7 +16,7 @@ pub enum Known {
 pub struct Case {
     pub name: &'static str,
     pub log: [u8; LOG],
-    pub pile: [u8; PILE],
+    pub pile: Vec<u8>,
     pub known: Known,
     /// Tip resistance in kPa where it is printed.
     pub resistance: Option<u64>,
@@ -79,6 +79,15 @@ fn pile(tip: u16) -> Pile {
     }
 }
 
+/// A pile on a graded site.
+fn graded(pile: Pile, grade: i16) -> Pile {
+    Pile {
+        length: GRADED_PILE as u8,
+        grade,
+        ..pile
+    }
+}
+
 const NUMBERS_A: [u64; 5] = [212_100, 268_605, 399_798, 668_403, 319_838];
 
 fn case(name: &'static str, rows: &[Row], pile: Pile, known: Known) -> Case {
@@ -110,7 +119,8 @@ impl Case {
 }
 
 pub fn all() -> Vec<Case> {
-    [a_to_d(), e_to_g(), h_to_j(), k_and_l()].concat()
+    let printed = [a_to_d(), e_to_g(), h_to_j(), k_and_l()];
+    [printed.concat(), fills(), cuts()].concat()
 }
 
 /// Clay alone: in one row and in many, softer, drier.
@@ -216,5 +226,58 @@ fn k_and_l() -> Vec<Case> {
         )
         .resists(600),
         refused("L, 0.61", &[clay(20_000, 61, 95)], 10_000, 11),
+    ]
+}
+
+/// Case A's pile below fill: up to 3,000 it reads the tables as before.
+fn fills() -> Vec<Case> {
+    let clay = [clay(20_000, 30, 95)];
+    let below = |fill| graded(pile(10_000), fill);
+    vec![
+        accepted("A, ten bytes", &clay, below(0), NUMBERS_A),
+        accepted("A, fill 3,000", &clay, below(3_000), NUMBERS_A),
+        accepted(
+            "A, fill 3,001",
+            &clay,
+            below(3_001),
+            [212_111, 268_627, 399_819, 668_446, 319_855],
+        ),
+        accepted(
+            "A, fill 5,000",
+            &clay,
+            below(5_000),
+            [232_500, 311_017, 438_251, 749_268, 350_600],
+        )
+        .resists(1_100),
+    ]
+}
+
+/// Case A's clay in a cut, which no head may be above.
+fn cuts() -> Vec<Case> {
+    let clay = [clay(20_000, 30, 95)];
+    let deeper = Pile {
+        head: 5_000,
+        ..pile(12_000)
+    };
+    vec![
+        accepted(
+            "A, cut 1,000",
+            &clay,
+            graded(pile(10_000), -1_000),
+            NUMBERS_A,
+        ),
+        case(
+            "A, cut 1,001",
+            &clay,
+            graded(pile(10_000), -1_001),
+            Known::Refusal(7),
+        ),
+        accepted(
+            "A, cut 5,000, head 5,000, tip 12,000",
+            &clay,
+            graded(deeper, -5_000),
+            [176_100, 268_605, 331_940, 600_545, 265_552],
+        )
+        .resists(950),
     ]
 }

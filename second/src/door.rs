@@ -125,6 +125,7 @@ pub fn read_pile(pile: &[u8]) -> Pile {
         refusal: read.refusal,
         row: read.row,
         field: read.field,
+        length: read.length,
         section: read.section,
         a: read.a,
         b: read.b,
@@ -132,6 +133,7 @@ pub fn read_pile(pile: &[u8]) -> Pile {
         head: read.head,
         tip: read.tip,
         zero: read.zero,
+        grade: read.grade,
     };
     Call::of(5).piece(pile).pile(&read).made();
     read
@@ -143,6 +145,7 @@ pub fn pack_pile(fields: &Pile, pile: &mut [u8]) -> Answer {
         refusal: fields.refusal,
         row: fields.row,
         field: fields.field,
+        length: fields.length,
         section: fields.section,
         a: fields.a,
         b: fields.b,
@@ -150,6 +153,7 @@ pub fn pack_pile(fields: &Pile, pile: &mut [u8]) -> Answer {
         head: fields.head,
         tip: fields.tip,
         zero: fields.zero,
+        grade: fields.grade,
     };
     let answer = door::pack_pile(fields, pile).into();
     call.answer(&answer).piece(pile).made();

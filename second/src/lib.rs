@@ -31,8 +31,10 @@ pub use records::{
 
 /// Length of a log in bytes.
 pub const LOG: usize = 321;
-/// Length of a pile record in bytes.
+/// Length of a pile record without a grade in bytes.
 pub const PILE: usize = 8;
+/// Length of a pile record with a grade in bytes.
+pub const GRADED_PILE: usize = 10;
 /// Length of a slice table in bytes.
 pub const TABLE: usize = 581;
 /// Length of one packed row in bytes.
@@ -96,6 +98,8 @@ pub struct Pile {
     pub refusal: u32,
     pub row: u32,
     pub field: u32,
+    /// Bytes of the record that was read, 8 or 10, or 0.
+    pub length: u8,
     pub section: u8,
     pub a: u16,
     pub b: u16,
@@ -103,6 +107,8 @@ pub struct Pile {
     pub head: u16,
     pub tip: u16,
     pub zero: u8,
+    /// Millimetres: a cut negative, a fill positive.
+    pub grade: i16,
 }
 
 /// The fields of one slice, with the refusal of its reading.

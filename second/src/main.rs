@@ -7,6 +7,7 @@ mod compare {
     pub mod choose;
     pub mod dice;
     pub mod disturb;
+    pub mod grades;
     pub mod known;
     pub mod lending;
     pub mod logs;
@@ -115,6 +116,7 @@ fn run(asked: &Asked) -> bool {
         known::friction_cells(&mut meter);
         known::tip_cells(&mut meter);
         known::around_the_marks(&mut meter);
+        known::graded_marks(&mut meter);
         known::known_cases(&mut meter);
         logs::logs(&mut meter, seed, 20_000 / part);
         records::piles(&mut meter, seed, 20_000 / part);

@@ -87,13 +87,14 @@ impl Call {
         self.number(pile.refusal)
             .number(pile.row)
             .number(pile.field)
-            .put(&[pile.section])
+            .put(&[pile.length, pile.section])
             .put(&pile.a.to_le_bytes())
             .put(&pile.b.to_le_bytes())
             .put(&[pile.method])
             .put(&pile.head.to_le_bytes())
             .put(&pile.tip.to_le_bytes())
             .put(&[pile.zero])
+            .put(&pile.grade.to_le_bytes())
     }
 
     pub fn slice(self, slice: &Slice) -> Call {

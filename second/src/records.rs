@@ -3,10 +3,12 @@
 
 #![forbid(unsafe_code)]
 
-use crate::{Answer, Log, Pile, Refusal, Row, Slice, LOG, PILE, ROW, ROWS, SLICE, SLICES, TABLE};
+use crate::{
+    Answer, Log, Pile, Refusal, Row, Slice, GRADED_PILE, LOG, PILE, ROW, ROWS, SLICE, SLICES, TABLE,
+};
 
 const ROW_WIDTHS: [u32; 5] = [16, 3, 8, 7, 6];
-const PILE_WIDTHS: [u32; 7] = [2, 12, 12, 2, 16, 16, 4];
+const PILE_WIDTHS: [u32; 8] = [2, 12, 12, 2, 16, 16, 4, 16];
 const SLICE_WIDTHS: [u32; 4] = [16, 11, 25, 4];
 
 /// Takes a number apart into digits of the given widths in bits.
@@ -69,8 +71,22 @@ pub fn row_fields(packed: &[u8]) -> Row {
     }
 }
 
-/// A pile record's eight bytes, whatever its fields; what does not fit is cut off.
-pub fn pile_bytes(pile: &Pile) -> [u8; PILE] {
+/// True of the two lengths that a pile record may have.
+pub(crate) fn is_pile_length(length: usize) -> bool {
+    length == PILE || length == GRADED_PILE
+}
+
+/// A pile record's bytes, whatever its fields: ten where its length is 10, the first eight of them otherwise; what does not fit is cut off.
+pub fn pile_bytes(pile: &Pile) -> Vec<u8> {
+    let mut packed = graded_pile_bytes(pile).to_vec();
+    if usize::from(pile.length) != GRADED_PILE {
+        packed.truncate(PILE);
+    }
+    packed
+}
+
+fn graded_pile_bytes(pile: &Pile) -> [u8; GRADED_PILE] {
+    let grade = i32::from(pile.grade).rem_euclid(1 << 16);
     let digits = [
         u64::from(pile.section),
         u64::from(pile.a),
@@ -79,13 +95,18 @@ pub fn pile_bytes(pile: &Pile) -> [u8; PILE] {
         u64::from(pile.head),
         u64::from(pile.tip),
         u64::from(pile.zero),
+        grade as u64,
     ];
     bytes(together(digits, PILE_WIDTHS))
 }
 
+/// A pile record's fields from its eight or ten bytes, whatever they are; eight have a grade of 0.
 pub(crate) fn pile_fields(packed: &[u8]) -> Pile {
-    let [section, a, b, method, head, tip, zero] = apart(number(packed), PILE_WIDTHS);
+    let mut ten = packed.to_vec();
+    ten.resize(GRADED_PILE, 0);
+    let [section, a, b, method, head, tip, zero, grade] = apart(number(&ten), PILE_WIDTHS);
     Pile {
+        length: packed.len() as u8,
         section: section as u8,
         a: a as u16,
         b: b as u16,
@@ -93,7 +114,17 @@ pub(crate) fn pile_fields(packed: &[u8]) -> Pile {
         head: head as u16,
         tip: tip as u16,
         zero: zero as u8,
+        grade: signed(grade),
         ..Pile::default()
+    }
+}
+
+/// A digit of 16 bits as two's complement has it: the upper half stands for the numbers below 0.
+fn signed(digit: u64) -> i16 {
+    if digit < 1 << 15 {
+        digit as i16
+    } else {
+        (digit as i32 - (1 << 16)) as i16
     }
 }
 
@@ -247,7 +278,7 @@ fn packed_log(fields: &Log, length: usize) -> Result<Vec<u8>, Refusal> {
 
 /// Reads a pile record by itself.
 pub fn read_pile(pile: &[u8]) -> Pile {
-    if pile.len() != PILE {
+    if !is_pile_length(pile.len()) {
         return Pile {
             refusal: 1,
             ..Pile::default()
@@ -265,16 +296,27 @@ pub fn read_pile(pile: &[u8]) -> Pile {
     }
 }
 
-/// Packs a pile record by itself; looks at the fields from section to zero.
+/// Packs a pile record by itself, to as many bytes as are lent; looks at the fields from section to grade.
 pub fn pack_pile(fields: &Pile, pile: &mut [u8]) -> Answer {
-    if pile.len() != PILE {
-        return Refusal::plain(1).answer();
+    match packed_pile(fields, pile.len()) {
+        Ok(packed) => {
+            pile.copy_from_slice(&packed);
+            Answer::default()
+        }
+        Err(refusal) => refusal.answer(),
     }
-    if let Err(refusal) = check_pile(fields) {
-        return refusal.answer();
+}
+
+/// Eight bytes have no place for a grade other than 0.
+fn packed_pile(fields: &Pile, length: usize) -> Result<Vec<u8>, Refusal> {
+    if !is_pile_length(length) || length == PILE && fields.grade != 0 {
+        return Err(Refusal::plain(1));
     }
-    pile.copy_from_slice(&pile_bytes(fields));
-    Answer::default()
+    check_pile(fields)?;
+    Ok(pile_bytes(&Pile {
+        length: length as u8,
+        ..*fields
+    }))
 }
 
 /// Reads one slice of a table; places count from 0, and past the last all is zero.

@@ -6,6 +6,7 @@ use crate::cases::{self, log_of, Known};
 use crate::*;
 
 mod edits;
+mod grades;
 
 fn row(thickness: u16, kind: u8, index: u8, saturation: u8) -> Row {
     Row {
@@ -19,6 +20,7 @@ fn row(thickness: u16, kind: u8, index: u8, saturation: u8) -> Row {
 
 fn circle(head: u16, tip: u16) -> Pile {
     Pile {
+        length: 8,
         section: 1,
         a: 600,
         method: 1,
@@ -377,13 +379,13 @@ fn piles_read_and_packed() {
     assert_eq!(read_pile(&bytes), pile);
     let mut out = [9; PILE];
     assert_eq!(pack_pile(&pile, &mut out), Answer::default());
-    assert_eq!(out, bytes);
+    assert_eq!(out[..], bytes);
     assert_eq!(pack_pile(&Pile { method: 4, ..pile }, &mut out).refusal, 6);
     assert_eq!(pack_pile(&Pile { section: 5, ..pile }, &mut out).field, 1);
     assert_eq!(pack_pile(&Pile { zero: 16, ..pile }, &mut out).field, 4);
     assert_eq!(pack_pile(&Pile { b: 4_096, ..pile }, &mut out).field, 3);
     assert_eq!(pack_pile(&pile, &mut out[..7]).refusal, 1);
-    assert_eq!(out, bytes);
+    assert_eq!(out[..], bytes);
     assert_eq!(
         read_pile(&bytes[..7]),
         Pile {

@@ -8,11 +8,10 @@ use lib.ListN.{length}
 use borrow.Author.Tests.{eqb-false}
 use Rattle.rules.specs.declared.Answer.{Answer}
 use Rattle.rules.specs.Base.{refuse, refuses, when, first}
-use Rattle.rules.specs.Records.{pileSize}
 use Rattle.rules.specs.Limits.{limitOf, rowLimit, tableSize}
 use Rattle.rules.specs.Packed.{rowsOf, pileOf, tableBytes}
 use Rattle.rules.specs.Ground.{depthOf}
-use Rattle.rules.specs.Checks.{longOther, formless, Passed, lengthsWrong, lentChecks}
+use Rattle.rules.specs.Checks.{formless, pileLengthWrong, Passed, lengthsWrong, lentChecks}
 use Rattle.rules.specs.Answers.{refused}
 use Rattle.rules.specs.Calculation.{heldSlicesOf, freshAnswer, freshTable, calculated, tableAfter}
 use Rattle.rules.proofs.Groups.{contentChecks, lent-grouped, log-grouped}
@@ -40,7 +39,7 @@ long log pile table h =
       right = h;
       formed = formed;
       form = omega (arith, eqb-false (limitOf log) 0 formed);
-      size = right-long (tableSize (limitOf log)) table (either-right (longOther pileSize pile) _ (either-right (formless log) _ h));
+      size = right-long (tableSize (limitOf log)) table (either-right (pileLengthWrong pile) _ (either-right (formless log) _ h));
     }
 
 -- and what checks 2 to 4 tell then

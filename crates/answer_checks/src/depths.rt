@@ -1,4 +1,6 @@
 // Checks 7 and 8, which look at the pile's depths.
+use norm_grades::cut_depth;
+use norm_grades::depth_read;
 ghost use mathlib.Core.Path.{_≡_};
 ghost use Rattle.rules.specs.Base as base;
 ghost use Rattle.answer_checks.specs.Depths.{depthChecks};
@@ -17,6 +19,12 @@ pub fn depth_refusal(pile: Pile, depth: u64) -> u32
         return 7;
     }
     if TIP_LIMIT < tip {
+        return 7;
+    }
+    if (pile.head as u64) < cut_depth(pile.grade) {
+        return 7;
+    }
+    if TIP_LIMIT < depth_read(pile.grade, pile.tip) {
         return 7;
     }
     if depth < tip + 5000 {

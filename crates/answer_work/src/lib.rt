@@ -7,6 +7,7 @@ use answer_numbers::line_of;
 use base_replies::first;
 use base_replies::refuse;
 use base_replies::refused;
+use norm_grades::depth_read;
 use norm_tip_reads::pascals;
 use record_pile_ranges::pile_refusal;
 use record_piles::take_pile;
@@ -55,7 +56,7 @@ fn work_pile(log: &[u8], pile: Pile, table: &mut [u8]) -> Worked
     let cut = ground_shaft::cut_shaft(log, pile, table);
     let soil = cut.soil;
     let used = cut.used;
-    let read = norm_tips::tip_resistance(pile.tip as u64, soil.index);
+    let read = norm_tips::tip_resistance(depth_read(pile.grade, pile.tip), soil.index);
     let late = tip_refusal(pile, soil, cut.top, read);
     if late != 0 {
         return no_work(table, refuse(late));

@@ -1,7 +1,7 @@
 -- The slices of a part of one stratum, said of the paper's cut, and one of them as it is worked out.
 use mathlib.Core.Path.{_≡_}
 use mathlib.Core.List.{List}
-use Prim.Native.Nat.{ℕ, _+_, _*_, _-_, _≤_, min}
+use Prim.Native.Nat.{ℕ, _+_, _*_, _-_, _^_, _≤_, min}
 use Rattle.rules.specs.declared.Soil.{Soil}
 use Rattle.rules.specs.declared.Pile.{Pile}
 use Rattle.rules.specs.declared.Slice.{Slice}
@@ -13,6 +13,7 @@ use Rattle.rules.specs.Pieces.{cutFrom}
 use Rattle.rules.specs.Tables.{frictionAt}
 use Rattle.rules.specs.Numbers.{sliceEach}
 use Rattle.norm_columns.specs.declared.Column.{Column}
+use Rattle.norm_grades.specs.declared.Shift.{Shift}
 use Rattle.norm_friction.specs.Standings.{columnSpot}
 
 -- the slices from depth a to b, where all of it is soil s
@@ -27,12 +28,17 @@ thickHere a b = min sliceThickness (b - a)
 abbrev pub weightOf : Slice → ℕ
 weightOf c = c .friction * c .thickness * c .factor
 
--- the slice of t millimetres that begins at depth a, by its soil's column and factor
-abbrev pub sliceBy : Column → ℕ → ℕ → ℕ → Slice
-sliceBy column factor a t = record { top = a; thickness = t; friction = frictionAt (columnSpot column (a + a + t)); factor = factor }
+-- the slice of t millimetres that begins at depth a, by its soil's column and factor, read with this shift
+abbrev pub sliceBy : Column → ℕ → Shift → ℕ → ℕ → Slice
+sliceBy column factor shift a t = record { top = a; thickness = t; friction = frictionAt (columnSpot column (a + a + t + shift .raising * 2 - shift .lowering * 2)); factor = factor }
+
+-- a shift that a reading from depth a on can be moved by
+pub record Shifted (shift : Shift) (a : ℕ) : Type 0 where
+  pub small : shift .raising ≤ 2 ^ 15
+  pub below : shift .lowering ≤ a
 
 -- as it is worked out: its numbers fit their bits, and no millimetre weighs more than is foreseen
-pub record Read (column : Column) (factor a b : ℕ) (r : Slice) : Type 0 where
-  pub is : r ≡ sliceBy column factor a (thickHere a b)
+pub record Read (column : Column) (factor : ℕ) (shift : Shift) (a b : ℕ) (r : Slice) : Type 0 where
+  pub is : r ≡ sliceBy column factor shift a (thickHere a b)
   pub fits : Fits sliceWidths (sliceFields r)
   pub light : r .friction * r .factor ≤ weightBound

@@ -1,6 +1,7 @@
 // The slices of a part of one stratum: how thick each is, its friction and factor, its place in the lent table, and its part of the sum.
 use base_order::smaller;
 use norm_columns::Column;
+use norm_grades::Shift;
 use record_slice_table::put_slice;
 ghost use mathlib.Core.Path.{_≡_};
 ghost use Prim.Native.Nat.{_+_, _*_, _-_, _^_, _<_, _≤_};
@@ -8,11 +9,12 @@ ghost use lib.ListN.{length};
 ghost use Rattle.rules.specs.Widths.{Fits};
 ghost use Rattle.rules.specs.Records.{sliceWidths, sliceFields, sliceSize};
 ghost use Rattle.rules.specs.Bounds.{factorBound, weightBound};
+ghost use Rattle.rules.specs.Grades.{lowering};
 ghost use Rattle.rules.specs.Numbers.{frictionSum};
 ghost use Rattle.norm_friction_table.specs.Printed.{Lent};
 ghost use Rattle.norm_friction.specs.Standings.{FrictionColumn};
 ghost use Rattle.record_slice_table.specs.Table.{putAll};
-ghost use Rattle.ground_cuts.specs.Cuts.{slicesIn, weightOf, Read};
+ghost use Rattle.ground_cuts.specs.Cuts.{slicesIn, weightOf, Shifted, Read};
 use rules::Pile;
 use rules::Slice;
 use rules::Soil;
@@ -30,15 +32,17 @@ fn next_slice(
     metres: &[[u8; 2]; 36],
     column: Column,
     factor: u8,
+    shift: Shift,
     at: u64,
     end: u64,
 ) -> Slice
-    requires { ⌜ Lent (now kpa) (now metres) × FrictionColumn column × (factor ≤ factorBound) × (at < end) × (end < 2 ^ 16) ⌝ }
-    ensures { λ r. ⌜ Read column factor at end r ⌝ }
+    requires { ⌜ Lent (now kpa) (now metres) × FrictionColumn column × (factor ≤ factorBound) × Shifted shift at × (at < end) × (end < 2 ^ 16) ⌝ }
+    ensures { λ r. ⌜ Read column factor shift at end r ⌝ }
 {
     let thickness = smaller(THICKEST_SLICE, end - at);
-    // Friction is read at the mid-depth, in half millimetres.
-    let friction = norm_friction::friction(kpa, metres, column, at + at + thickness);
+    // Friction is read at the mid-depth, in half millimetres, from the top as the site's grade moves it.
+    let top = at + shift.raising - shift.lowering;
+    let friction = norm_friction::friction(kpa, metres, column, top + top + thickness);
     Slice {
         top: at as u16,
         thickness: thickness as u16,
@@ -56,7 +60,7 @@ fn weigh(c: Slice) -> u64
 }
 
 // What lies from one depth to another in a stratum of this soil, cut from its top, slice after slice put into the table from a place on.
-// Column and factor are the soil's alone. Table 7.3 and its index are lent.
+// Column and factor are the soil's alone, the shift is the site's. Table 7.3 and its index are lent.
 pub fn cut_part(
     kpa: &[[u8; 10]; 13],
     metres: &[[u8; 2]; 36],
@@ -67,17 +71,18 @@ pub fn cut_part(
     from: u64,
     end: u64,
 ) -> Cut
-    requires { ⌜ Lent (now kpa) (now metres) × (end < 2 ^ 16) × ((place + length (slicesIn pile soil from end)) * sliceSize ≤ length (now table)) ⌝ }
+    requires { ⌜ Lent (now kpa) (now metres) × (lowering (pile .grade) ≤ from) × (end < 2 ^ 16) × ((place + length (slicesIn pile soil from end)) * sliceSize ≤ length (now table)) ⌝ }
     ensures { λ r. ⌜ (r ≡ record { used = place + length (slicesIn pile soil from end); sum = frictionSum (slicesIn pile soil from end) }) × (r .sum ≤ weightBound * (end - from)) ⌝ }
     ensures { λ _. ⌜ now (table .exit) ≡ putAll (now (table .entry)) place (slicesIn pile soil from end) ⌝ }
 {
     let column = norm_friction::column_of(soil);
     let factor = norm_factors::factor(pile.method, soil.kind);
+    let shift = norm_grades::shift_of(pile.grade);
     let mut used = place;
     let mut sum: u64 = 0;
     let mut at = from;
     while at < end {
-        let c = next_slice(kpa, metres, column, factor, at, end);
+        let c = next_slice(kpa, metres, column, factor, shift, at, end);
         put_slice(table, used, c);
         sum += weigh(c);
         used += 1;

@@ -6,6 +6,7 @@ use Rattle.rules.specs.declared.Row.{Row}
 use Rattle.rules.specs.declared.Pile.{Pile}
 use Rattle.rules.specs.declared.Slice.{Slice}
 use Rattle.rules.specs.Limits.{rowLimit, tableSize, tipLimit}
+use Rattle.rules.specs.Grades.{cutDepth}
 use Rattle.rules.specs.Packed.{rowsOf}
 use Rattle.rules.specs.Ground.{depthOf, soilAt}
 use Rattle.rules.specs.Pieces.{runTop}
@@ -13,10 +14,11 @@ use Rattle.rules.specs.Numbers.{belowTip, shaftSlices, frictionSum}
 use Rattle.rules.specs.Checks.{Passed}
 use Rattle.ground_shaft.specs.declared.Shaft.{Shaft}
 
--- a log past its checks that goes on below the tip, and a table of so many bytes, with places enough for every form
+-- a log past its checks that goes on below the tip, a head that no cut bares, and a table of so many bytes, with places enough for every form
 pub record Ready (log : List ℕ) (p : Pile) (size : ℕ) : Type 0 where
   pub passed : Passed log
   pub near : p .tip ≤ tipLimit
+  pub level : cutDepth (p .grade) ≤ p .head
   pub deep : p .tip < depthOf (rowsOf log)
   pub room : tableSize rowLimit ≤ size
 

@@ -7,11 +7,10 @@ use native.Mathlib.Omega.{arith}
 use lib.ListN.{length}
 use borrow.Author.Tests.{eq-eqb}
 use Rattle.rules.specs.Base.{either, neg, refuses}
-use Rattle.rules.specs.Records.{pileSize}
 use Rattle.rules.specs.Limits.{limitOf, tableSize}
 use Rattle.rules.specs.Packed.{rowsOf, pileOf}
 use Rattle.rules.specs.Edits.{editedLog}
-use Rattle.rules.specs.Checks.{formless, longOther, lengthsWrong, editChecks, Passed, LentPassed, Accepted}
+use Rattle.rules.specs.Checks.{formless, pileLengthWrong, lengthsWrong, editChecks, Passed, LentPassed, Accepted}
 use Rattle.rules.specs.Calculation.{heldSlicesOf, freshTable, calculated, tableAfter}
 use Rattle.rules.specs.EditReplies.{editReply, editLog, editTable}
 use Rattle.rules.specs.Runs.{Call, Desk, step, run, anyAccepted, Last, Afresh, AfterRun}
@@ -69,7 +68,7 @@ module _ (c : Call) (d : Desk) (h : Accepted (c .edit) (d .log) (c .pile) (d .ta
   again : LentPassed now (c .pile) (freshTable now (c .pile))
   again =
       let table = freshTable now (c .pile) in
-      let long : longOther pileSize (c .pile) ≡ false = either-left (longOther pileSize (c .pile)) _ (either-right (formless (d .log)) _ (a .lent .right)) in
+      let long : pileLengthWrong (c .pile) ≡ false = either-left (pileLengthWrong (c .pile)) _ (either-right (formless (d .log)) _ (a .lent .right)) in
       let formed : formless now ≡ false = rw (a .left .limit) (a .lent .formed) in
       let lent : lengthsWrong now (c .pile) table ≡ false = rw (formed, long, eq-eqb _ _ (fresh-long now (c .pile) (a .left .passed))) in
       passes now (c .pile) table lent (a .left .passed)

@@ -5,7 +5,7 @@ use mathlib.Core.Path.{_≡_, sym, _∙_, ap}
 use mathlib.Core.Bool.{Bool, true, false}
 use mathlib.Core.Logic.{_⊎_}
 use mathlib.Core.List.{List, [], _∷_, _++_, map}
-use Prim.Native.Nat.{ℕ, _*_, _-_, _<_, _≤_}
+use Prim.Native.Nat.{ℕ, _*_, _-_, _^_, _<_, _≤_}
 use native.Mathlib.Omega.{arith}
 use lib.ListN.{length, getD, take, drop, replicate}
 use Rattle.rules.specs.declared.Soil.{Soil}
@@ -14,17 +14,18 @@ use Rattle.rules.specs.declared.Pile.{Pile}
 use Rattle.rules.specs.declared.Slice.{Slice}
 use Rattle.rules.specs.Base.{refuses, nothing, first}
 use Rattle.rules.specs.Widths.{Fits, Bytes}
-use Rattle.rules.specs.Records.{pileSize, sliceWidths, sliceFields, sliceSize}
-use Rattle.rules.specs.Limits.{rowLimit, placeLimit, limitOf, logSize, tableSize}
+use Rattle.rules.specs.Records.{plainSize, gradedSize, sliceWidths, sliceFields, sliceSize}
+use Rattle.rules.specs.Limits.{rowLimit, placeLimit, limitOf, logSize, tableSize, freeGrade}
+use Rattle.rules.specs.Grades.{cutDepth, fillHeight, withGrade}
 use Rattle.rules.specs.Packed.{rowsOf, pileOf, sliceBytes, slicesBytes, tableBytes}
-use Rattle.rules.specs.Ranges.{LogInRange, PileInRange, Sound}
+use Rattle.rules.specs.Ranges.{LogInRange, PileInRange, TakesGrade, Sound}
 use Rattle.rules.specs.Ground.{depthOf, soilAt, Agree}
 use Rattle.rules.specs.Pieces.{strata, topOf, cutParts, pieces, runTop}
 use Rattle.rules.specs.Tables.{frictionWeighed}
 use Rattle.rules.specs.Numbers.{belowTip, friction, frictionSpot, shaftSlices, thicknessSum, lineOf, resistance}
 use Rattle.rules.specs.Edits.{Edit, asked, editedLog}
 use Rattle.rules.specs.Checks.{oneToFour, fiveOn, thirteenOn, lentChecks, groundChecks, calculationChecks, editChecks, LentPassed, Accepted, Numbered, OneOf}
-use Rattle.rules.specs.Reading.{noLog, noPile, noSlice, readLog, readPile, readSlice, packLogCheck, packedLog, packPileCheck, packedPile}
+use Rattle.rules.specs.Reading.{noLog, noPile, noSlice, pileTold, pileOfRead, readLog, readPile, readSlice, packLogCheck, packedLog, packPileCheck, packedPile}
 use Rattle.rules.specs.Answers.{refused, numbers, answer, heldSlices}
 use Rattle.rules.specs.Calculation.{answerOf, heldSlicesOf, freshAnswer, freshTable, calculated, tableAfter}
 use Rattle.rules.specs.EditReplies.{editReply, editLog, editTable, keptOf, withKept, AsCalculated}
@@ -42,8 +43,9 @@ use Rattle.rules.proofs.Known as Known
 use Rattle.rules.proofs.KnownEdits as KnownEdits
 use Rattle.rules.proofs.StratumLaws as StratumLaws
 use Rattle.rules.proofs.RunLaws as RunLaws
+use Rattle.rules.proofs.GradeLaws as GradeLaws
 use Rattle.record_packing.proofs.RoundTrip as LogTrip
-use Rattle.record_piles.proofs.RoundTrip as PileTrip
+use Rattle.record_pile_bytes.proofs.RoundTrip as PileTrip
 use Rattle.record_slice_table.proofs.RoundTrip as SliceTrip
 use Rattle.promises.proofs.AcceptedEdits as Edits
 use Rattle.promises.proofs.AfterRun as Run
@@ -100,7 +102,7 @@ pub refused-pile-of-an-edit : (e : Edit) (log pile table : List ℕ) → Accepte
 refused-pile-of-an-edit e log pile table h g = Edits.pile-refused e log pile table h g
 
 -- "a refused reading gives zero fields, a refused packing changes no buffer"
-pub refused-reading : (s : List ℕ) → (refuses (readLog s .refusal) ≡ true → readLog s .log ≡ noLog) × (refuses (readPile s .refusal) ≡ true → readPile s .pile ≡ noPile)
+pub refused-reading : (s : List ℕ) → (refuses (readLog s .refusal) ≡ true → readLog s .log ≡ noLog) × (refuses (readPile s .refusal) ≡ true → readPile s ≡ pileTold (readPile s .refusal) 0 noPile)
 unfolding readLog readPile
 refused-reading s = (λ h. rw h, λ h. rw h)
 
@@ -125,8 +127,8 @@ pub numbers-where-sound : (log pile table : List ℕ) → LentPassed log pile ta
     × (tableAfter log pile table ≡ tableBytes (tableSize (limitOf log)) (shaftSlices (soilAt (rowsOf log)) (pileOf pile)))
 numbers-where-sound log pile table h s = SoundLaws.sound-numbers log pile table h s
 
-pub sound-where-not-refused : (g : ℕ → Soil) (depth : ℕ) (p : Pile) → refuses (groundChecks g depth p) ≡ false → Sound g depth p
-sound-where-not-refused g depth p h = SoundLaws.passes-sound g depth p h
+pub sound-where-not-refused : (g : ℕ → Soil) (depth : ℕ) (p : Pile) → p .grade < 2 ^ 16 → refuses (groundChecks g depth p) ≡ false → Sound g depth p
+sound-where-not-refused g depth p b h = SoundLaws.passes-sound g depth p b h
 
 -- A log that passes the checks has the numbers and the slices of its ground, millimetre by millimetre.
 pub answered : (log pile table : List ℕ) → LentPassed log pile table
@@ -171,15 +173,16 @@ pub log-round-trip-back : (s t : List ℕ) → Bytes s → length t ≡ length s
 log-round-trip-back s t b h g = LogTrip.log-back s t b h g
 
 -- and what is read is in these ranges
-pub read-in-range : (s : List ℕ) → (refuses (readLog s .refusal) ≡ false → LogInRange (readLog s .log)) × (refuses (readPile s .refusal) ≡ false → PileInRange (readPile s .pile))
+pub read-in-range : (s : List ℕ) → (refuses (readLog s .refusal) ≡ false → LogInRange (readLog s .log)) × (refuses (readPile s .refusal) ≡ false → PileInRange (pileOfRead (readPile s)))
 read-in-range s = (λ h. LogTrip.log-in-range s h, λ h. PileTrip.pile-read-in-range s h)
 
-pub pile-round-trip : (p : Pile) (s : List ℕ) → PileInRange p → length s ≡ pileSize
-    → (packPileCheck p s ≡ nothing) × (readPile (packedPile p s) ≡ record { refusal = nothing; pile = p })
+-- of a pile record of either length: "each length packs back to itself, so a reading also tells the length"; eight bytes take no grade but 0
+pub pile-round-trip : (p : Pile) (s : List ℕ) → PileInRange p → TakesGrade (length s) p
+    → (packPileCheck p s ≡ nothing) × (readPile (packedPile p s) ≡ pileTold nothing (length s) p)
 pile-round-trip p s r h = PileTrip.pile-there p s r h
 
 pub pile-round-trip-back : (s t : List ℕ) → Bytes s → length t ≡ length s → refuses (readPile s .refusal) ≡ false
-    → (packPileCheck (readPile s .pile) t ≡ nothing) × (packedPile (readPile s .pile) t ≡ s)
+    → (packPileCheck (pileOfRead (readPile s)) t ≡ nothing) × (packedPile (pileOfRead (readPile s)) t ≡ s)
 pile-round-trip-back s t b h g = PileTrip.pile-back s t b h g
 
 pub slice-round-trip : (cs : List Slice) (i : ℕ) → ((k : ℕ) → k < length cs → Fits sliceWidths (sliceFields (getD cs k noSlice))) → length cs ≤ placeLimit
@@ -224,3 +227,26 @@ split-changes-nothing k x row log pile table h = Edits.split-changes-nothing k x
 pub merge-changes-nothing : (e : Edit) (k x : ℕ) (log pile table : List ℕ) → Accepted e log pile table → Accepted (asked 4 k x []) (editedLog e log) pile table
     → AsCalculated e log (editedLog (asked 4 k x []) (editedLog e log)) pile table
 merge-changes-nothing e k x log pile table h g = Edits.merge-changes-nothing e k x log pile table h g
+
+-- Request (i) of 02. "Demands 2 and 3 read with the grade as part of the record.": every theorem above has it in `pileOf`. Beside them:
+
+-- "An 8-byte record reads as grade 0", and is the record of ten bytes with zeros behind
+pub eight-bytes : (s : List ℕ) → length s ≡ plainSize → (pileOf s .grade ≡ 0) × (pileOf (s ++ (0 ∷ 0 ∷ [])) ≡ pileOf s)
+eight-bytes s h = (GradeLaws.plain-level s (omega arith), GradeLaws.pile-behind s 2)
+
+-- a record of eight bytes and one of ten that hold the same fields are answered alike, in a calculation and in an edit, and leave the same bytes
+pub either-length : (e : Edit) (a b log table : List ℕ) → length a ≡ plainSize → length b ≡ gradedSize → pileOf a ≡ pileOf b
+    → (calculated log a table ≡ calculated log b table) × (tableAfter log a table ≡ tableAfter log b table)
+    × (editReply e log a table ≡ editReply e log b table) × (editLog e log a table ≡ editLog e log b table) × (editTable e log a table ≡ editTable e log b table)
+either-length e a b log table h k f = (
+  GradeLaws.calculated-same a b h k f log table,
+  GradeLaws.table-same a b h k f log table,
+  GradeLaws.reply-same a b h k f log table e,
+  GradeLaws.log-same a b h k f log table e,
+  GradeLaws.edit-table-same a b h k f log table e,
+)
+
+-- "Up to 3,000 either way, tables are read as before.": answer and slices are those of grade 0, where no cut bares the head (7)
+pub small-grade : (g : ℕ → Soil) (depth : ℕ) (p : Pile) → cutDepth (p .grade) ≤ freeGrade → fillHeight (p .grade) ≤ freeGrade → cutDepth (p .grade) ≤ p .head
+    → (answer g depth p ≡ answer g depth (withGrade 0 p)) × (heldSlices g depth p ≡ heldSlices g depth (withGrade 0 p))
+small-grade g depth p c f h = (GradeLaws.answer-level p c f h g depth, GradeLaws.held-level p c f h g depth)

@@ -1,11 +1,12 @@
 // The door for hosts: the core's entries under plain names, for C and Rust. Each takes any bytes of any length, and replies.
 use rules::Answer;
 use rules::LogRead;
+use rules::Pile;
 use rules::PileRead;
 use rules::SliceRead;
 ghost use mathlib.Core.Path.{_≡_};
 ghost use Rattle.rules.specs.Edits.{asked};
-ghost use Rattle.rules.specs.Reading.{readLog, readPile, readSlice, packLogCheck, packedLog, packPileCheck, packedPile};
+ghost use Rattle.rules.specs.Reading.{readLog, readPile, readSlice, packLogCheck, packedLog, pileOfRead, packPileCheck, packedPile};
 ghost use Rattle.rules.specs.Answers.{refused};
 ghost use Rattle.rules.specs.Calculation.{calculated, tableAfter};
 ghost use Rattle.rules.specs.EditReplies.{editReply, editLog, editTable};
@@ -59,14 +60,23 @@ pub extern "C" fn psamathyr_read_pile(pile: &[u8]) -> PileRead
     record_piles::read_pile(pile)
 }
 
-// Looks at section to zero only.
+// Looks at section to grade only.
 #[no_mangle]
 pub extern "C" fn psamathyr_pack_pile(fields: PileRead, pile: &mut [u8]) -> Answer
-    ensures reply { λ r. ⌜ r ≡ refused (packPileCheck (fields .pile) (now (pile .entry))) ⌝ }
-    ensures pile { λ _. ⌜ now (pile .exit) ≡ packedPile (fields .pile) (now (pile .entry)) ⌝ }
+    ensures reply { λ r. ⌜ r ≡ refused (packPileCheck (pileOfRead fields) (now (pile .entry))) ⌝ }
+    ensures pile { λ _. ⌜ now (pile .exit) ≡ packedPile (pileOfRead fields) (now (pile .entry)) ⌝ }
 {
-    let parts = fields.pile;
-    base_replies::refused(record_piles::pack_pile(parts, pile))
+    let parts = Pile {
+        section: fields.section,
+        a: fields.a,
+        b: fields.b,
+        method: fields.method,
+        head: fields.head,
+        tip: fields.tip,
+        zero: fields.zero,
+        grade: fields.grade,
+    };
+    base_replies::refused(record_pile_bytes::pack_pile(parts, pile))
 }
 
 #[no_mangle]

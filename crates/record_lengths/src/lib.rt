@@ -1,14 +1,15 @@
 // Check 1 in one room: the lengths that lent pieces may have, and the row limit that the length of a log or a slice table tells.
+use rules::GRADED_SIZE;
 use rules::LOG_SIZE;
 use rules::MORE_PLACES;
-use rules::PILE_SIZE;
+use rules::PLAIN_SIZE;
 use rules::ROW_LIMIT;
 use rules::SLICE_SIZE;
 use rules::TABLE_SIZE;
 ghost use mathlib.Core.Path.{_≡_};
 ghost use Prim.Native.Nat.{_≤_};
 ghost use Rattle.rules.specs.Limits.{rowLimit, forms, logSize, tableSize, formBy};
-ghost use Rattle.rules.specs.Checks.{lengthsWrong};
+ghost use Rattle.rules.specs.Checks.{pileLengthWrong, lengthsWrong};
 
 // The row limit of a log of so many bytes; 0 where no form is that long.
 pub fn row_limit(len: usize) -> usize
@@ -30,7 +31,17 @@ pub fn table_limit(len: usize) -> usize
     0
 }
 
-// Check 1 of a calculation: the log has a form, the pile record its size, and the table goes with the log.
+// Check 1 of a pile record: it has neither eight bytes nor ten.
+pub fn pile_length_wrong(pile: &[u8]) -> bool
+    ensures { λ r. ⌜ r ≡ pileLengthWrong (now (pile .entry)) ⌝ }
+{
+    if pile.len() == PLAIN_SIZE {
+        return false;
+    }
+    pile.len() != GRADED_SIZE
+}
+
+// Check 1 of a calculation: the log has a form, the pile record one of its lengths, and the table goes with the log.
 pub fn lengths_wrong(log: &[u8], pile: &[u8], table: &[u8]) -> bool
     ensures { λ r. ⌜ r ≡ lengthsWrong (now (log .entry)) (now (pile .entry)) (now (table .entry)) ⌝ }
 {
@@ -38,7 +49,7 @@ pub fn lengths_wrong(log: &[u8], pile: &[u8], table: &[u8]) -> bool
     if limit == 0 {
         return true;
     }
-    if pile.len() != PILE_SIZE {
+    if pile_length_wrong(pile) {
         return true;
     }
     table.len() != (limit + MORE_PLACES) * SLICE_SIZE

@@ -1,28 +1,58 @@
-// A pile record: its seven fields from its eight bytes and back.
-use base_copies::copy_in;
+// A pile record read: its fields from its bytes, eight of them or, with a grade, ten.
+use base_order::wide;
 use base_replies::refuse;
 use record_bits::Cursor;
-use record_bits::put_bits;
+use record_bits::WORD_BITS;
 use record_bits::take_bits;
+use record_lengths::pile_length_wrong;
 use record_pile_ranges::pile_refusal;
-use record_word_bytes::bytes_of;
 use record_words::word_of;
 use rules::PILE_A;
 use rules::PILE_B;
+use rules::PILE_GRADE;
 use rules::PILE_HEAD;
 use rules::PILE_METHOD;
 use rules::PILE_SECTION;
-use rules::PILE_SIZE;
 use rules::PILE_TIP;
 use rules::PILE_ZERO;
+use rules::PLAIN_SIZE;
 use rules::Pile;
 use rules::PileRead;
 use rules::Refusal;
 ghost use mathlib.Core.Path.{_≡_};
-ghost use Rattle.rules.specs.Packed.{pileOf, pileBytes};
-ghost use Rattle.rules.specs.Reading.{readPile, noPile, packPileCheck, packedPile};
+ghost use Prim.Native.Nat.{_+_, _*_, _<_};
+ghost use lib.ListN.{getD};
+ghost use Rattle.rules.specs.Records.{plainSize};
+ghost use Rattle.rules.specs.Packed.{pileOf};
+ghost use Rattle.rules.specs.Reading as reading;
+ghost use Rattle.rules.specs.Reading.{readPile, noPile};
 
-// The seven fields, one after the other; what lies past the end reads as 0.
+// Where the two bytes of a grade begin in a word.
+const GRADE_START: usize = WORD_BITS - PILE_GRADE;
+
+// A byte, 0 past the end.
+fn byte_at(s: &[u8], i: usize) -> u64
+    ensures { λ r. ⌜ (r ≡ getD (now (s .entry)) i 0) × (r < 256) ⌝ }
+{
+    if i < s.len() {
+        return wide(s[i]);
+    }
+    0
+}
+
+// The grade, behind the other fields; what lies past the end reads as 0.
+fn take_grade(s: &[u8]) -> u16
+    ensures { λ r. ⌜ r ≡ getD (now (s .entry)) plainSize 0 * 256 + getD (now (s .entry)) (plainSize + 1) 0 ⌝ }
+{
+    let start = Cursor {
+        word: byte_at(s, PLAIN_SIZE) * 256 + byte_at(s, PLAIN_SIZE + 1),
+        at: GRADE_START,
+    };
+    let grade = take_bits(start, PILE_GRADE);
+    grade.value as u16
+}
+
+// The fields, one after the other; what lies past the end reads as 0.
 pub fn take_pile(s: &[u8]) -> Pile
     ensures { λ r. ⌜ r ≡ pileOf (now (s .entry)) ⌝ }
 {
@@ -37,6 +67,7 @@ pub fn take_pile(s: &[u8]) -> Pile
     let head = take_bits(method.next, PILE_HEAD);
     let tip = take_bits(head.next, PILE_TIP);
     let zero = take_bits(tip.next, PILE_ZERO);
+    let grade = take_grade(s);
     Pile {
         section: section.value as u8,
         a: a.value as u16,
@@ -45,11 +76,30 @@ pub fn take_pile(s: &[u8]) -> Pile
         head: head.value as u16,
         tip: tip.value as u16,
         zero: zero.value as u8,
+        grade: grade,
+    }
+}
+
+// What a reading tells.
+fn pile_told(r: Refusal, length: u8, p: Pile) -> PileRead
+    ensures { λ t. ⌜ t ≡ reading.pileTold r length p ⌝ }
+{
+    PileRead {
+        refusal: r,
+        length: length,
+        section: p.section,
+        a: p.a,
+        b: p.b,
+        method: p.method,
+        head: p.head,
+        tip: p.tip,
+        zero: p.zero,
+        grade: p.grade,
     }
 }
 
 fn no_pile(r: Refusal) -> PileRead
-    ensures { λ p. ⌜ p ≡ record { refusal = r; pile = noPile } ⌝ }
+    ensures { λ t. ⌜ t ≡ reading.pileTold r 0 noPile ⌝ }
 {
     let none = Pile {
         section: 0,
@@ -59,17 +109,15 @@ fn no_pile(r: Refusal) -> PileRead
         head: 0,
         tip: 0,
         zero: 0,
+        grade: 0,
     };
-    PileRead {
-        refusal: r,
-        pile: none,
-    }
+    pile_told(r, 0, none)
 }
 
 pub fn read_pile(s: &[u8]) -> PileRead
     ensures { λ r. ⌜ r ≡ readPile (now (s .entry)) ⌝ }
 {
-    if s.len() != PILE_SIZE {
+    if pile_length_wrong(s) {
         return no_pile(refuse(1));
     }
     let p = take_pile(s);
@@ -77,39 +125,5 @@ pub fn read_pile(s: &[u8]) -> PileRead
     if 0 < r.number {
         return no_pile(r);
     }
-    PileRead {
-        refusal: r,
-        pile: p,
-    }
-}
-
-// The eight bytes of a pile record; a field of more bits than its place is carried into the field before.
-fn pile_bytes(p: Pile) -> [u8; PILE_SIZE]
-    ensures { λ b. ⌜ b ≡ pileBytes p ⌝ }
-{
-    let start = Cursor { word: 0, at: 0 };
-    let section = put_bits(start, p.section as u64, PILE_SECTION);
-    let a = put_bits(section, p.a as u64, PILE_A);
-    let b = put_bits(a, p.b as u64, PILE_B);
-    let method = put_bits(b, p.method as u64, PILE_METHOD);
-    let head = put_bits(method, p.head as u64, PILE_HEAD);
-    let tip = put_bits(head, p.tip as u64, PILE_TIP);
-    let zero = put_bits(tip, p.zero as u64, PILE_ZERO);
-    bytes_of(zero.word)
-}
-
-// A refused packing changes no byte.
-pub fn pack_pile(p: Pile, buf: &mut [u8]) -> Refusal
-    ensures { λ r. ⌜ (r ≡ packPileCheck p (now (buf .entry))) × (now (buf .exit) ≡ packedPile p (now (buf .entry))) ⌝ }
-{
-    if buf.len() != PILE_SIZE {
-        return refuse(1);
-    }
-    let r = pile_refusal(p);
-    if 0 < r.number {
-        return r;
-    }
-    let b = pile_bytes(p);
-    copy_in(buf, 0, &b);
-    r
+    pile_told(r, s.len() as u8, p)
 }

@@ -72,6 +72,7 @@ pub(crate) fn pile_given(s: &[u8]) -> Pile {
         head: wide(s, 6),
         tip: wide(s, 8),
         zero: byte(s, 10),
+        grade: wide(s, 11),
     }
 }
 

@@ -23,7 +23,7 @@ pub(crate) fn pack_log(given: &[u8], buf: &mut [u8]) {
 
 pub(crate) fn pack_pile(given: &[u8], buf: &mut [u8]) {
     io::write_all(STDOUT_FILENO, b"packpile");
-    let r = record_piles::pack_pile(pile_given(given), buf);
+    let r = record_pile_bytes::pack_pile(pile_given(given), buf);
     packed(r, buf);
 }
 

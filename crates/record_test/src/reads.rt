@@ -1,7 +1,7 @@
 // Cases that read.
 use super::show::bytes;
 use super::show::number;
-use super::show::pile;
+use super::show::pile_read;
 use super::show::refusal;
 use super::show::row;
 use super::show::rows;
@@ -30,8 +30,7 @@ pub(crate) fn read_rows(s: &[u8]) {
 pub(crate) fn read_pile(s: &[u8]) {
     io::write_all(STDOUT_FILENO, b"pile");
     let got = record_piles::read_pile(s);
-    refusal(got.refusal);
-    pile(got.pile);
+    pile_read(got);
 }
 
 // Spot i, counted from 0.

@@ -1,7 +1,7 @@
 // What the lines are made of: numbers, refusals, rows, bytes.
 use libc::STDOUT_FILENO;
 use rules::Log;
-use rules::Pile;
+use rules::PileRead;
 use rules::ROW_LIMIT;
 use rules::Refusal;
 use rules::Row;
@@ -42,7 +42,9 @@ pub(crate) fn row(r: Row) {
     small(r.zero);
 }
 
-pub(crate) fn pile(p: Pile) {
+pub(crate) fn pile_read(p: PileRead) {
+    refusal(p.refusal);
+    small(p.length);
     small(p.section);
     wide(p.a);
     wide(p.b);
@@ -50,6 +52,7 @@ pub(crate) fn pile(p: Pile) {
     wide(p.head);
     wide(p.tip);
     small(p.zero);
+    wide(p.grade);
 }
 
 pub(crate) fn slice(c: Slice) {

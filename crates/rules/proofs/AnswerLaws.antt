@@ -14,6 +14,8 @@ use Rattle.rules.specs.declared.Slice.{Slice}
 use Rattle.rules.specs.declared.Answer.{Answer}
 use Rattle.rules.specs.declared.Refusal.{Refusal}
 use Rattle.rules.specs.Base.{pick, either, refuses, first, when}
+use Rattle.rules.specs.Limits.{tipLimit}
+use Rattle.rules.specs.Grades.{cutDepth}
 use Rattle.rules.specs.Ground.{depthOf, soilAt, Agree}
 use Rattle.rules.specs.Pieces.{pieces, runTop}
 use Rattle.rules.specs.Numbers.{sliceEach, resistance, lineOf, belowTip, shaftSlices}
@@ -34,6 +36,7 @@ pub record Clear (depth : ℕ) (p : Pile) : Type 0 where
   pub order : p .head < p .tip
   pub far : 3000 ≤ p .tip
   pub near : p .tip ≤ 40000
+  pub level : cutDepth (p .grade) ≤ p .head
   pub deep : p .tip + 5000 ≤ depth
 
 pub clear : (depth : ℕ) (p : Pile) → refuses (early depth p) ≡ false → Clear depth p
@@ -42,12 +45,15 @@ clear depth p e =
     let r = first-off (pileChecks p) (first (when (depthsWrong p) 7) (when (logShort depth p) 8)) e in
     let q = first-off (when (depthsWrong p) 7) (when (logShort depth p) 8) (r .1) in
     let a : depthsWrong p ≡ false = when-off 6 (depthsWrong p) (q .0) in
-    let b : either (ltb (p .tip) 3000) (ltb 40000 (p .tip)) ≡ false = either-right (leb (p .tip) (p .head)) _ a in
+    let b = either-right (leb (p .tip) (p .head)) _ a in
+    let d = either-right (ltb (p .tip) 3000) _ b in
+    let graded = either-right (ltb tipLimit (p .tip)) _ d in
     record {
       good = r .0;
       order = leb-false (p .tip) (p .head) (either-left _ _ a);
       far = ltb-false (p .tip) 3000 (either-left _ _ b);
-      near = ltb-false 40000 (p .tip) (either-right (ltb (p .tip) 3000) _ b);
+      near = ltb-false 40000 (p .tip) (either-left _ _ d);
+      level = ltb-false (p .head) (cutDepth (p .grade)) (either-left _ _ graded);
       deep = ltb-false depth (p .tip + 5000) (when-off 7 (logShort depth p) (q .1));
     }
 

@@ -9,15 +9,14 @@ use Rattle.rules.specs.declared.Soil.{Soil}
 use Rattle.rules.specs.declared.Pile.{Pile}
 use Rattle.rules.specs.declared.Slice.{Slice}
 use Rattle.rules.specs.declared.Answer.{Answer}
-use Rattle.rules.specs.Base.{pick, refuses, when, first, inOrder}
-use Rattle.rules.specs.Records.{pileSize}
+use Rattle.rules.specs.Base.{pick, either, refuses, when, first, inOrder}
 use Rattle.rules.specs.Limits.{limitOf}
 use Rattle.rules.specs.Packed.{rowsOf, pileOf}
 use Rattle.rules.specs.Pieces.{runTop}
 use Rattle.rules.specs.Numbers.{sand, belowTip, shaftSlices, lineOf, resistance}
 use Rattle.rules.specs.Edits.{Edit, editedRows}
-use Rattle.rules.specs.Checks.{longOther, formless, lengthsWrong, editLengthsWrong, unusedWrong, firstWrong, newRowCheck, tooDeep, sectionCheck, methodWrong, depthsWrong, logShort, seatShort, tooSoft, dashed, namesNothing, full, tooMany, lentChecks, logChecks, groundChecks, editChecks}
-use Rattle.rules.specs.Reading.{noPile, readPile, packPileCheck}
+use Rattle.rules.specs.Checks.{formless, pileLengthWrong, lengthsWrong, editLengthsWrong, unusedWrong, firstWrong, newRowCheck, tooDeep, sectionCheck, methodWrong, depthsWrong, logShort, seatShort, tooSoft, dashed, namesNothing, full, tooMany, lentChecks, logChecks, groundChecks, editChecks}
+use Rattle.rules.specs.Reading.{noPile, pileTold, readPile, gradeLost, packPileCheck}
 use Rattle.rules.specs.Answers.{refused, numbers, answer, heldSlices}
 use Rattle.rules.proofs.RefusalLaws.{first-assoc}
 
@@ -78,11 +77,11 @@ unfolding editChecks contentChecks fieldChecks changeChecks
 edit-grouped e log pile table = rw (first-assoc (first (when (unusedWrong log) 2) (firstWrong 1 (rowsOf log))) (when (tooDeep (rowsOf log)) 4), first-assoc (when (unusedWrong log) 2) (firstWrong 1 (rowsOf log)))
 
 -- 1, then 5 and 6
-pub read-pile-grouped : (s : List ℕ) → let r = first (when (longOther pileSize s) 1) (pileChecks (pileOf s)) in readPile s ≡ record { refusal = r; pile = pick (refuses r) noPile (pileOf s) }
+pub read-pile-grouped : (s : List ℕ) → let r = first (when (pileLengthWrong s) 1) (pileChecks (pileOf s)) in readPile s ≡ pileTold r (pick (refuses r) 0 (length s)) (pick (refuses r) noPile (pileOf s))
 unfolding readPile pileChecks
 read-pile-grouped s = refl
 
-pub pack-pile-grouped : (p : Pile) (s : List ℕ) → packPileCheck p s ≡ first (when (longOther pileSize s) 1) (pileChecks p)
+pub pack-pile-grouped : (p : Pile) (s : List ℕ) → packPileCheck p s ≡ first (when (either (pileLengthWrong s) (gradeLost (p .grade) s)) 1) (pileChecks p)
 unfolding packPileCheck pileChecks
 pack-pile-grouped p s = refl
 

@@ -73,9 +73,9 @@ pile-right p h =
     let k = section-right p h in
     (rw (s, k .0, k .1, eq-eqb (p .zero) 0 (h .zero)), rw m)
 
-pub pile-in-range : (p : Pile) → refuses (sectionCheck p) ≡ false → methodWrong p ≡ false → p .head < 2 ^ 16 → p .tip < 2 ^ 16 → PileInRange p
+pub pile-in-range : (p : Pile) → refuses (sectionCheck p) ≡ false → methodWrong p ≡ false → p .head < 2 ^ 16 → p .tip < 2 ^ 16 → p .grade < 2 ^ 16 → PileInRange p
 unfolding sectionCheck wrongPileField
-pile-in-range p h m i j =
+pile-in-range p h m i j k =
     let f = not-picked (wrongPileField p) (record { number = 5; row = 0; field = wrongPileField p }) nothing refl h .0 in
     let one = none-picked (within 1 2 (p .section)) _ 0 f in
     let a = none-picked (aInRange p) _ 1 (one .1) in
@@ -95,4 +95,5 @@ pile-in-range p h m i j =
       head = i;
       tip = j;
       zero = eqb-true (p .zero) 0 (none-picked (eqb (p .zero) 0) _ 3 (b .1) .0);
+      grade = k;
     }

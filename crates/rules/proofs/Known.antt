@@ -12,6 +12,7 @@ use Rattle.rules.specs.declared.Answer.{Answer}
 use Rattle.rules.specs.Base.{pick, both, refuses, when, first, allZero}
 use Rattle.rules.specs.Records.{sliceSize, sliceFields}
 use Rattle.rules.specs.Limits.{tableSize, limitOf}
+use Rattle.rules.specs.Grades.{cutDepth, fillHeight}
 use Rattle.rules.specs.Packed.{numberAt, rowsFrom, rowsOf, pileOf, rowBytes, pileBytes, sliceBytes, placesBytes, logFor, slicesBytes, tableBytes}
 use Rattle.rules.specs.Ground.{depthOf, same, soilAt}
 use Rattle.rules.specs.Tables.{rowFor, spotOf, weighed, frictionAt, dashAt, tipAt}
@@ -20,7 +21,7 @@ use Rattle.rules.specs.Checks.{unusedWrong, wrongField, firstWrong, wron
 use Rattle.rules.specs.Answers.{refused, numbers}
 use Rattle.rules.specs.Calculation.{heldSlicesOf, freshAnswer, freshTable, calculated, tableAfter}
 use Rattle.rules.specs.Sheet.{digitsFrom, spaced, answerLine, sliceLine, sliceLines, totalLine, sheetOf, inputLimit, inputLog, inputPile, sheetText}
-use Rattle.rules.specs.Cases.{Shown, five, refusedBy, kPa, bars, logHex, pileHex, firstSlice, sheet, Case, joined, logIn, blankTable, resistanceIn, replyOf, worked, work, print, cases}
+use Rattle.rules.specs.Cases.{Shown, five, refusedBy, kPa, bars, logHex, pileHex, firstSlice, sheet, Case, joined, logIn, pileRecord, blankTable, resistanceIn, replyOf, worked, work, print, cases}
 use Rattle.rules.proofs.Groups.{pileChecks, early, late, checksFrom, answerFrom, slicesFrom}
 use Rattle.rules.proofs.ByRows.{Positive, lead, extent, cuts, topFrom, answerRows, slicesRows}
 use Rattle.rules.proofs.TableLaws.{both-left, both-right}
@@ -63,28 +64,28 @@ sheet-rows input w = let n = inputLimit input in ap₂ sheetOf (calculated-rows 
 
 -- the log of a sheet's input
 abbrev given : List Row → Pile → List ℕ
-given rs p = inputLog (inputLimit (logIn rs ++ pileBytes p)) (logIn rs ++ pileBytes p)
+given rs p = inputLog (inputLimit (logIn rs ++ pileRecord p)) (logIn rs ++ pileRecord p)
 
 abbrev rowed : Shown → List Row → Pile → List ℕ
-rowed (five l t s c u) rs p = replyOf (calculatedRows (logIn rs) (pileBytes p) blankTable)
-rowed (refusedBy n) rs p = replyOf (calculatedRows (logIn rs) (pileBytes p) blankTable)
-rowed (kPa r) rs p = calculatedRows (logIn rs) (pileBytes p) blankTable .refusal .number ∷ resistanceIn rs p ∷ []
-rowed (bars l) rs p = calculatedRows (logIn rs) (pileBytes p) blankTable .refusal .number ∷ joined (map sliceFields (slicesRows (rowsOf (logIn rs)) (pileOf (pileBytes p))))
+rowed (five l t s c u) rs p = replyOf (calculatedRows (logIn rs) (pileRecord p) blankTable)
+rowed (refusedBy n) rs p = replyOf (calculatedRows (logIn rs) (pileRecord p) blankTable)
+rowed (kPa r) rs p = calculatedRows (logIn rs) (pileRecord p) blankTable .refusal .number ∷ resistanceIn rs p ∷ []
+rowed (bars l) rs p = calculatedRows (logIn rs) (pileRecord p) blankTable .refusal .number ∷ joined (map sliceFields (slicesRows (rowsOf (logIn rs)) (pileOf (pileRecord p))))
 rowed (logHex l) rs p = logIn rs
-rowed (pileHex l) rs p = pileBytes p
-rowed (firstSlice l) rs p = take sliceSize (tableRows (logIn rs) (pileBytes p) blankTable)
-rowed (sheet l) rs p = sheetRows (logIn rs ++ pileBytes p)
+rowed (pileHex l) rs p = pileRecord p
+rowed (firstSlice l) rs p = take sliceSize (tableRows (logIn rs) (pileRecord p) blankTable)
+rowed (sheet l) rs p = sheetRows (logIn rs ++ pileRecord p)
 
 row-work : (s : Shown) (rs : List Row) (p : Pile) → Positive (rowsOf (logIn rs)) → Positive (rowsOf (given rs p)) → worked s rs p ≡ rowed s rs p
-row-work (five l t s c u) rs p w v = ap replyOf (calculated-rows (logIn rs) (pileBytes p) blankTable w)
-row-work (refusedBy n) rs p w v = ap replyOf (calculated-rows (logIn rs) (pileBytes p) blankTable w)
-row-work (kPa r) rs p w v = ap (λ (a : Answer). a .refusal .number ∷ resistanceIn rs p ∷ []) (calculated-rows (logIn rs) (pileBytes p) blankTable w)
+row-work (five l t s c u) rs p w v = ap replyOf (calculated-rows (logIn rs) (pileRecord p) blankTable w)
+row-work (refusedBy n) rs p w v = ap replyOf (calculated-rows (logIn rs) (pileRecord p) blankTable w)
+row-work (kPa r) rs p w v = ap (λ (a : Answer). a .refusal .number ∷ resistanceIn rs p ∷ []) (calculated-rows (logIn rs) (pileRecord p) blankTable w)
 row-work (bars l) rs p w v =
-    ap₂ (λ (a : Answer) (t : List Slice). a .refusal .number ∷ joined (map sliceFields t)) (calculated-rows (logIn rs) (pileBytes p) blankTable w) (slices-rows (logIn rs) (pileBytes p) blankTable w)
+    ap₂ (λ (a : Answer) (t : List Slice). a .refusal .number ∷ joined (map sliceFields t)) (calculated-rows (logIn rs) (pileRecord p) blankTable w) (slices-rows (logIn rs) (pileRecord p) blankTable w)
 row-work (logHex l) rs p w v = refl
 row-work (pileHex l) rs p w v = refl
-row-work (firstSlice l) rs p w v = ap (take sliceSize) (table-rows (logIn rs) (pileBytes p) blankTable w)
-row-work (sheet l) rs p w v = sheet-rows (logIn rs ++ pileBytes p) v
+row-work (firstSlice l) rs p w v = ap (take sliceSize) (table-rows (logIn rs) (pileRecord p) blankTable w)
+row-work (sheet l) rs p w v = sheet-rows (logIn rs ++ pileRecord p) v
 
 abbrev ready : List Case → Bool
 ready [] = true
@@ -108,7 +109,7 @@ unfolding inputLimit numberAt rowsFrom rowsOf rowBytes placesBytes logFor pileBy
 all-ready = tt
 
 by-computing : map rowWork cases ≡ map print cases
-unfolding limitOf inputLimit when first allZero numberAt rowsFrom rowsOf pileOf rowBytes pileBytes sliceBytes placesBytes logFor slicesBytes tableBytes unusedWrong wrongField firstWrong depthOf wrongPileField sectionCheck same soilAt rowFor spotOf weighed frictionAt dashAt tipAt friction factor sliceOf sliceEach frictionSum tipRead resistance tipForce shaftForce capacityOf upliftOf early late pileChecks checksFrom numbers answerFrom slicesFrom lentChecks digitsFrom spaced answerLine sliceLine sliceLines totalLine sheetOf lead extent cuts topFrom answerRows slicesRows
+unfolding limitOf inputLimit when first allZero numberAt rowsFrom rowsOf pileOf rowBytes pileBytes sliceBytes placesBytes logFor slicesBytes tableBytes unusedWrong wrongField firstWrong depthOf wrongPileField sectionCheck same soilAt rowFor spotOf weighed frictionAt dashAt tipAt friction factor sliceOf sliceEach frictionSum tipRead resistance tipForce shaftForce capacityOf upliftOf early late pileChecks checksFrom numbers answerFrom slicesFrom lentChecks digitsFrom spaced answerLine sliceLine sliceLines totalLine sheetOf lead extent cuts topFrom answerRows slicesRows cutDepth fillHeight
 by-computing = refl
 
 -- Every number that document 01 prints for its cases A to L, and the rest of each reply, is what the definitions give.

@@ -12,6 +12,7 @@ use Rattle.rules.specs.declared.Answer.{Answer}
 use Rattle.rules.specs.declared.Refusal.{Refusal}
 use Rattle.rules.specs.Base.{pick, both, either, refuses, when, first, allZero}
 use Rattle.rules.specs.Limits.{tableSize, limitOf}
+use Rattle.rules.specs.Grades.{cutDepth, fillHeight}
 use Rattle.rules.specs.Packed.{numberAt, rowsFrom, rowsOf, pileOf, rowBytes, pileBytes, sliceBytes, placesBytes, logFor, slicesBytes, tableBytes}
 use Rattle.rules.specs.Ground.{depthOf, same, soilAt}
 use Rattle.rules.specs.Tables.{rowFor, spotOf, weighed, frictionAt, dashAt, tipAt}
@@ -21,7 +22,7 @@ use Rattle.rules.specs.Checks.{unusedWrong, wrongField, firstWrong, newR
 use Rattle.rules.specs.Answers.{refused, numbers}
 use Rattle.rules.specs.Calculation.{answerOf, heldSlicesOf, freshAnswer, freshTable}
 use Rattle.rules.specs.EditReplies.{sameBytes, kept, withKept, editAnswer, editReply, editLog, editTable}
-use Rattle.rules.specs.Cases.{logIn, replyOf}
+use Rattle.rules.specs.Cases.{logIn, pileRecord, replyOf}
 use Rattle.rules.specs.WorkedEdits.{WorkedEdit, tableOf, rightAfter, foundAfter, workedEdits}
 use Rattle.rules.proofs.Groups.{pileChecks, early, late, checksFrom, answerFrom, slicesFrom}
 use Rattle.rules.proofs.ByRows.{lead, extent, cuts, topFrom, answerRows, slicesRows}
@@ -30,7 +31,7 @@ use Rattle.rules.proofs.TableLaws.{both-left, both-right}
 use Rattle.rules.proofs.Known.{positive, are-positive}
 
 abbrev checked : WorkedEdit → Refusal
-checked c = editChecks (c .edit) (logIn (c .rows)) (pileBytes (c .pile)) (tableOf (c .lent))
+checked c = editChecks (c .edit) (logIn (c .rows)) (pileRecord (c .pile)) (tableOf (c .lent))
 
 -- the log if the edit is accepted
 abbrev now : WorkedEdit → List ℕ
@@ -50,7 +51,7 @@ abbrev rowsNow : WorkedEdit → List Row
 rowsNow c = rowsOf (now c)
 
 abbrev pileNow : WorkedEdit → Pile
-pileNow c = pileOf (pileBytes (c .pile))
+pileNow c = pileOf (pileRecord (c .pile))
 
 abbrev foundRows : WorkedEdit → List (List ℕ)
 foundRows c = after c (refuses (checked c)) (answerRows (rowsNow c) (pileNow c)) (slicesRows (rowsNow c) (pileNow c))
@@ -81,7 +82,7 @@ unfolding limitOf when first allZero numberAt rowsFrom rowsOf rowBytes placesByt
 all-ready = tt
 
 by-computing : map foundRows workedEdits ≡ map rightAfter workedEdits
-unfolding limitOf when first allZero numberAt rowsFrom rowsOf pileOf rowBytes pileBytes sliceBytes placesBytes logFor slicesBytes tableBytes unusedWrong wrongField firstWrong newRowCheck depthOf wrongPileField sectionCheck same soilAt rowFor spotOf weighed frictionAt dashAt tipAt friction factor sliceOf sliceEach frictionSum tipRead resistance tipForce shaftForce capacityOf upliftOf early late pileChecks checksFrom numbers answerFrom slicesFrom stands editedRows editedLog editChecks sameBytes kept lead extent cuts topFrom answerRows slicesRows
+unfolding limitOf when first allZero numberAt rowsFrom rowsOf pileOf rowBytes pileBytes sliceBytes placesBytes logFor slicesBytes tableBytes unusedWrong wrongField firstWrong newRowCheck depthOf wrongPileField sectionCheck same soilAt rowFor spotOf weighed frictionAt dashAt tipAt friction factor sliceOf sliceEach frictionSum tipRead resistance tipForce shaftForce capacityOf upliftOf early late pileChecks checksFrom numbers answerFrom slicesFrom stands editedRows editedLog editChecks sameBytes kept lead extent cuts topFrom answerRows slicesRows cutDepth fillHeight
 by-computing = refl
 
 -- Each worked edit has the reply, the log and the table that are right.

@@ -1,6 +1,7 @@
 -- Laws of the definitions.
 pub mod Basics
 pub mod WidthLaws
+pub mod GradeLaws
 pub mod RefusalLaws
 pub mod FormLaws
 pub mod PlacesLaws

@@ -1,6 +1,7 @@
 -- Laws of a first refusal, and of the tests that it is made of.
 use mathlib.Core.Path.{_≡_, refl, sym, _∙_, ap}
 use mathlib.Core.Bool.{Bool, true, false, true≢false}
+use mathlib.Core.Logic.{_⊎_, inl, inr}
 use mathlib.Core.List.{List}
 use Prim.Native.Nat.{ℕ, suc, _≤_}
 use lib.Dec.{ltb, eqb}
@@ -8,8 +9,9 @@ use lib.ListN.{length}
 use native.Mathlib.Omega.{arith}
 use borrow.Author.Tests.{lt-ltb, le-ltb, ltb-false, eqb-true}
 use Rattle.rules.specs.declared.Refusal.{Refusal}
-use Rattle.rules.specs.Base.{pick, either, neg, within, refuse, nothing, when, refuses, first}
-use Rattle.rules.specs.Checks.{longOther}
+use Rattle.rules.specs.Base.{pick, both, either, neg, within, refuse, nothing, when, refuses, first}
+use Rattle.rules.specs.Records.{plainSize, gradedSize}
+use Rattle.rules.specs.Checks.{longOther, pileLengthWrong}
 
 pub first-left : (a b : Refusal) → refuses a ≡ true → first a b ≡ a
 unfolding first
@@ -82,6 +84,15 @@ within-true low high n h k = rw (le-ltb n low h, le-ltb high n k)
 -- a piece of the right length
 pub right-long : (n : ℕ) (s : List ℕ) → longOther n s ≡ false → length s ≡ n
 right-long n s h = eqb-true (length s) n (neg-false (eqb (length s) n) h)
+
+-- of a pile record: one of its two lengths
+pub right-pile : (s : List ℕ) → pileLengthWrong s ≡ false → (length s ≡ plainSize) ⊎ (length s ≡ gradedSize)
+right-pile s h = go (longOther plainSize s) (longOther gradedSize s) refl refl h
+  where
+    go : (t u : Bool) → longOther plainSize s ≡ t → longOther gradedSize s ≡ u → both t u ≡ false → (length s ≡ plainSize) ⊎ (length s ≡ gradedSize)
+    go false u e f k = inl (right-long plainSize s e)
+    go true false e f k = inr (right-long gradedSize s f)
+    go true true e f k = absurd (true≢false k)
 
 -- a field number that is 0 was not picked
 pub none-picked : (t : Bool) (n k : ℕ) → pick t n (suc k) ≡ 0 → (t ≡ true) × (n ≡ 0)

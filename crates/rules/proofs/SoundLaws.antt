@@ -2,7 +2,7 @@
 use mathlib.Core.Path.{_≡_}
 use mathlib.Core.Bool.{false}
 use mathlib.Core.List.{List}
-use Prim.Native.Nat.{ℕ, _+_, max}
+use Prim.Native.Nat.{ℕ, _+_, _^_, _<_, max}
 use native.Mathlib.Omega.{arith}
 use lib.Dec.{ltb, leb}
 use lib.ListN.{length}
@@ -11,10 +11,11 @@ use Rattle.rules.specs.declared.Soil.{Soil}
 use Rattle.rules.specs.declared.Pile.{Pile}
 use Rattle.rules.specs.Base.{nothing, refuses, when, first}
 use Rattle.rules.specs.Limits.{placeLimit, tipLimit, tableSize, limitOf}
+use Rattle.rules.specs.Grades.{cutDepth}
 use Rattle.rules.specs.Packed.{rowsOf, pileOf, tableBytes}
 use Rattle.rules.specs.Ground.{soilAt, depthOf}
 use Rattle.rules.specs.Pieces.{runTop}
-use Rattle.rules.specs.Numbers.{sand, belowTip, shaftSlices, resistance, lineOf}
+use Rattle.rules.specs.Numbers.{sand, belowTip, tipOf, shaftSlices, resistance, lineOf}
 use Rattle.rules.specs.Checks.{sectionCheck, methodWrong, depthsWrong, logShort, seatOf, seatShort, tooSoft, dashed, tooMany, groundChecks, LentPassed}
 use Rattle.rules.specs.Ranges.{Sound}
 use Rattle.rules.specs.Answers.{numbers, answer, heldSlices}
@@ -39,6 +40,8 @@ module _ (g : ℕ → Soil) (depth : ℕ) (p : Pile) where
         lt-leb (p .tip) (p .head) (s .order),
         le-ltb (p .tip) 3000 (s .range .0),
         le-ltb tipLimit (p .tip) (s .range .1),
+        le-ltb (p .head) (cutDepth (p .grade)) (s .level),
+        le-ltb tipLimit (tipOf p) (s .tipAsRead),
         le-ltb depth (p .tip + 5000) (s .log),
         lt-leb (soil .kind) 3 (s .soil),
         le-ltb seat 2000 (s .seat),
@@ -48,9 +51,9 @@ module _ (g : ℕ → Soil) (depth : ℕ) (p : Pile) where
         le-ltb placeLimit (length (shaftSlices g p)) (s .few),
       )
 
-  pub passes-sound : refuses (groundChecks g depth p) ≡ false → Sound g depth p
+  pub passes-sound : p .grade < 2 ^ 16 → refuses (groundChecks g depth p) ≡ false → Sound g depth p
   unfolding groundChecks
-  passes-sound h =
+  passes-sound bits h =
       let c5 = first-off (sectionCheck p) _ h in
       let c6 = first-off (when (methodWrong p) 6) _ (c5 .1) in
       let c7 = first-off (when (depthsWrong p) 7) _ (c6 .1) in
@@ -62,12 +65,16 @@ module _ (g : ℕ → Soil) (depth : ℕ) (p : Pile) where
       let depths = when-off 6 (depthsWrong p) (c7 .0) in
       let order = leb-false (p .tip) (p .head) (either-left _ _ depths) in
       let range = either-right (leb (p .tip) (p .head)) _ depths in
-      let near = ltb-false tipLimit (p .tip) (either-right (ltb (p .tip) 3000) _ range) in
+      let most = either-right (ltb (p .tip) 3000) _ range in
+      let near = ltb-false tipLimit (p .tip) (either-left _ _ most) in
+      let graded = either-right (ltb tipLimit (p .tip)) _ most in
       let short = when-off 9 (seatShort (runTop g soil (belowTip p)) p) (c10 .0) in
       record {
-        fields = pile-in-range p (c5 .0) (when-off 5 (methodWrong p) (c6 .0)) (omega (arith, order, near)) (omega (arith, near));
+        fields = pile-in-range p (c5 .0) (when-off 5 (methodWrong p) (c6 .0)) (omega (arith, order, near)) (omega (arith, near)) bits;
         order = order;
         range = (ltb-false (p .tip) 3000 (either-left _ _ range), near);
+        level = ltb-false (p .head) (cutDepth (p .grade)) (either-left _ _ graded);
+        tipAsRead = ltb-false tipLimit (tipOf p) (either-right (ltb (p .head) (cutDepth (p .grade))) _ graded);
         log = ltb-false depth (p .tip + 5000) (when-off 7 (logShort depth p) (c8 .0));
         soil = leb-false (soil .kind) 3 (when-off 8 (sand soil) (c9 .0));
         seat = ltb-false seat 2000 (either-left _ _ short);

@@ -4,7 +4,7 @@ use mathlib.Core.List.{List, [], _∷_, _++_}
 use Prim.Native.Nat.{ℕ, zero, suc, _+_, _*_, _/_, _%_, _^_, _<_, _≤_}
 use native.Mathlib.Nat.{mod-lt, mod-one, mod-eq-of-lt, add-assoc, zero-add, zero-mul, add-mul, mul-assoc, mul-comm, mul-left-comm, mul-le-mul-right}
 use native.Mathlib.Omega.{arith}
-use lib.ListN.{length, getD, drop}
+use lib.ListN.{length, getD, drop, replicate}
 use lib.Seq.{drop-drop, getD-drop}
 use lib.Pow.{pow-pos, pow-add, high, low, field, mod-pow-add, mod-mod-pow, shr-shr}
 use Rattle.rules.specs.Widths.{bitsOf, fieldsOf, join, bytes, Fits}
@@ -116,9 +116,24 @@ last (suc n) s =
     apart : (x b y z : ℕ) → x * (256 * b) + (y * 256 + z) ≡ (x * b + y) * 256 + z
     apart x b y z = omega (arith, mul-left-comm x 256 b)
 
-pub number-less : (n : ℕ) (s : List ℕ) → getD s n 0 < 256 → numberAt s 0 (suc n) / 256 ≡ numberAt s 0 n
+pub number-more : (n : ℕ) (s : List ℕ) → numberAt s 0 (suc n) ≡ numberAt s 0 n * 256 + getD s n 0
 unfolding numberAt
-number-less n s h = rw (last n s) (omega arith)
+number-more n s = last n s
+
+pub number-less : (n : ℕ) (s : List ℕ) → getD s n 0 < 256 → numberAt s 0 (suc n) / 256 ≡ numberAt s 0 n
+number-less n s h = rw (number-more n s) (omega arith)
+
+-- zeros behind bytes change none of them, and no number of them
+pub zeros-behind : (s : List ℕ) (n k : ℕ) → getD (s ++ replicate n 0) k 0 ≡ getD s k 0
+zeros-behind [] zero k = refl
+zeros-behind [] (suc n) zero = refl
+zeros-behind [] (suc n) (suc k) = zeros-behind [] n k
+zeros-behind (b ∷ s) n zero = refl
+zeros-behind (b ∷ s) n (suc k) = zeros-behind s n k
+
+pub number-behind : (s : List ℕ) (n m : ℕ) → numberAt (s ++ replicate n 0) 0 m ≡ numberAt s 0 m
+unfolding numberAt
+number-behind s n m = join-same (bytes m) (s ++ replicate n 0) s (zeros-behind s n)
 
 -- what comes after the bytes of a number does not count
 pub number-front : (n : ℕ) (s t : List ℕ) → n ≤ length s → numberAt (s ++ t) 0 n ≡ numberAt s 0 n

@@ -19,7 +19,7 @@ answerOf rs p = answer (soilAt rs) (depthOf rs) p
 unfoldable pub heldSlicesOf : List Row → Pile → List Slice
 heldSlicesOf rs p = heldSlices (soilAt rs) (depthOf rs) p
 
--- the answer and the table worked out afresh, of a log that passes checks 1 to 4 and a pile record of the right length
+-- the answer and the table worked out afresh, of a log that passes checks 1 to 4 and a pile record of a right length
 unfoldable pub freshAnswer : List ℕ → List ℕ → Answer
 freshAnswer log pile = answerOf (rowsOf log) (pileOf pile)
 

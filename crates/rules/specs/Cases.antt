@@ -1,14 +1,18 @@
--- Cases A to L of document 01, "The sheet program and known numbers", two that its traps ask for, and a deep pile: what is right, and what the
+-- Cases A to L of document 01, "The sheet program and known numbers", two that its traps ask for, a deep pile, and cases of requests of 02:
+-- what is right, and what the
 -- definitions give. Each case has its whole reply: number, row, field, kept and all five numbers. Five numbers that 01 does not print are from
 -- the second program (second/), which works in exact fractions.
 use mathlib.Core.List.{List, [], _∷_, _++_, map}
-use Prim.Native.Nat.{ℕ, _*_}
+use Prim.Native.Nat.{ℕ, _*_, _-_, _^_}
+use lib.Dec.{eqb}
 use lib.ListN.{take, replicate}
 use Rattle.rules.specs.declared.Row.{Row}
 use Rattle.rules.specs.declared.Pile.{Pile}
 use Rattle.rules.specs.declared.Slice.{Slice}
 use Rattle.rules.specs.declared.Answer.{Answer}
-use Rattle.rules.specs.Records.{sliceSize, sliceFields}
+use Rattle.rules.specs.Base.{pick}
+use Rattle.rules.specs.Grades.{withGrade}
+use Rattle.rules.specs.Records.{plainSize, gradedSize, sliceSize, sliceFields}
 use Rattle.rules.specs.Limits.{rowLimit, tableSize}
 use Rattle.rules.specs.Packed.{rowsOf, pileOf, logFor, pileBytes}
 use Rattle.rules.specs.Ground.{soilAt}
@@ -57,17 +61,21 @@ printed (sheet l) = l
 abbrev pub logIn : List Row → List ℕ
 logIn rs = logFor rowLimit rs
 
+-- ten bytes where there is a grade, else eight
+abbrev pub pileRecord : Pile → List ℕ
+pileRecord p = pileBytes (pick (eqb (p .grade) 0) plainSize gradedSize) p
+
 abbrev pub blankTable : List ℕ
 blankTable = replicate (tableSize rowLimit) 0
 
 abbrev pub answerIn : List Row → Pile → Answer
-answerIn rs p = calculated (logIn rs) (pileBytes p) blankTable
+answerIn rs p = calculated (logIn rs) (pileRecord p) blankTable
 
 abbrev pub slicesIn : List Row → Pile → List Slice
-slicesIn rs p = heldSlicesOf (rowsOf (logIn rs)) (pileOf (pileBytes p))
+slicesIn rs p = heldSlicesOf (rowsOf (logIn rs)) (pileOf (pileRecord p))
 
 abbrev pub resistanceIn : List Row → Pile → ℕ
-resistanceIn rs p = resistance (pileOf (pileBytes p)) (soilAt (rowsOf (logIn rs)) (belowTip p))
+resistanceIn rs p = resistance (pileOf (pileRecord p)) (soilAt (rowsOf (logIn rs)) (belowTip p))
 
 abbrev pub replyOf : Answer → List ℕ
 replyOf a = a .refusal .number ∷ a .refusal .row ∷ a .refusal .field ∷ a .kept ∷ a .line ∷ a .tip ∷ a .shaft ∷ a .capacity ∷ a .uplift ∷ []
@@ -79,9 +87,9 @@ worked (refusedBy n) rs p = replyOf (answerIn rs p)
 worked (kPa r) rs p = answerIn rs p .refusal .number ∷ resistanceIn rs p ∷ []
 worked (bars l) rs p = answerIn rs p .refusal .number ∷ joined (map sliceFields (slicesIn rs p))
 worked (logHex l) rs p = logIn rs
-worked (pileHex l) rs p = pileBytes p
-worked (firstSlice l) rs p = take sliceSize (tableAfter (logIn rs) (pileBytes p) blankTable)
-worked (sheet l) rs p = sheetText (logIn rs ++ pileBytes p)
+worked (pileHex l) rs p = pileRecord p
+worked (firstSlice l) rs p = take sliceSize (tableAfter (logIn rs) (pileRecord p) blankTable)
+worked (sheet l) rs p = sheetText (logIn rs ++ pileRecord p)
 
 abbrev pub work : Case → List ℕ
 work c = worked (c .shown) (c .rows) (c .pile)
@@ -105,13 +113,24 @@ fineSand t = row t 2 100 95
 
 -- circle 600, head 1,000
 abbrev pub circle : ℕ → ℕ → Pile
-circle m t = record { section = 1; a = 600; b = 0; method = m; head = 1000; tip = t; zero = 0 }
+circle m t = record { section = 1; a = 600; b = 0; method = m; head = 1000; tip = t; zero = 0; grade = 0 }
 
 abbrev pub pileA : Pile
 pileA = circle 1 10000
 
+-- the grade of a fill and that of a cut
+abbrev pub filled : ℕ → ℕ
+filled b = b
+
+abbrev pub dug : ℕ → ℕ
+dug c = 2 ^ 16 - c
+
+-- A's circle from a head down to a tip, where the site is cut
+abbrev pub inCut : ℕ → ℕ → ℕ → Pile
+inCut c h t = record { section = 1; a = 600; b = 0; method = 1; head = h; tip = t; zero = 0; grade = dug c }
+
 abbrev pub rectangle : ℕ → ℕ → Pile
-rectangle a b = record { section = 2; a = a; b = b; method = 1; head = 1000; tip = 10000; zero = 0 }
+rectangle a b = record { section = 2; a = a; b = b; method = 1; head = 1000; tip = 10000; zero = 0; grade = 0 }
 
 abbrev pub sheetA : List ℕ
 sheetA =
@@ -169,7 +188,26 @@ cases =
     -- "Reading the tip soil just above the tip: a tip on a boundary to clay has a seat of 0 mm in the lower soil, and gets 10."
     case (row 10000 5 130 95 ∷ clay 10000 130) pileA (refusedBy 10) ∷
     -- "Rounding each slice's friction to whole Pa before the sum.": A but index 0.37, head 1,001, tip 10,001, by exact fractions
-    case (clay 20000 137) (record { section = 1; a = 600; b = 0; method = 1; head = 1001; tip = 10001; zero = 0 }) (five 171894 238939 324012 562951 259209) ∷
+    case (clay 20000 137) (record { section = 1; a = 600; b = 0; method = 1; head = 1001; tip = 10001; zero = 0; grade = 0 }) (five 171894 238939 324012 562951 259209) ∷
     -- "below 35 m the 35 m row": A but tip 38,000, log 45,000; from the second program
     case (clay 45000 130) (circle 1 38000) (five 1214160 808645 2288635 3097280 1830908) ∷
+    -- 02 (i), A on a graded site: "Up to 3,000 either way, tables are read as before."
+    case (clay 20000 130) (withGrade (filled 3000) pileA) (five 212100 268605 399798 668403 319838) ∷
+    case (clay 20000 130) (withGrade (dug 1000) pileA) (five 212100 268605 399798 668403 319838) ∷
+    case (clay 20000 130) (withGrade (dug 1000) pileA) (pileHex (73 ∷ 96 ∷ 0 ∷ 16 ∷ 62 ∷ 130 ∷ 113 ∷ 0 ∷ 252 ∷ 24 ∷ [])) ∷
+    case (clay 20000 130) (withGrade (dug 1000) pileA) (sheet sheetA) ∷
+    -- "a fill b raises it by b less 3,000"
+    case (clay 20000 130) (withGrade (filled 3001) pileA) (five 212111 268627 399819 668446 319855) ∷
+    case (clay 20000 130) (withGrade (filled 5000) pileA) (five 232500 311017 438251 749268 350600) ∷
+    -- "7 also when the head is above the cut level"
+    case (clay 20000 130) (withGrade (dug 1001) pileA) (refusedBy 7) ∷
+    -- "a cut c lowers every depth read in tables 7.3 and 7.8 by c less 3,000": head 5,000 at the cut level, tip 12,000
+    case (clay 20000 130) (inCut 5000 5000 12000) (five 176100 268605 331940 600545 265552) ∷
+    -- "or the tip's depth as read is over 40,000": tip 30,000, log 35,000; the five numbers from the second program
+    case (clay 35000 130) (withGrade (filled 13000) (circle 1 30000)) (five 1058160 848229 1994582 2842811 1595665) ∷
+    case (clay 35000 130) (withGrade (filled 13001) (circle 1 30000)) (refusedBy 7) ∷
+    -- the former limits of 7 stay on natural depths
+    case (clay 60000 130) (inCut 5000 5000 40001) (refusedBy 7) ∷
+    -- the deepest cut, of 32,768; the five numbers from the second program
+    case (clay 60000 130) (inCut 32768 32768 40000) (five 182519 273525 344039 617564 275231) ∷
     []

@@ -1,4 +1,4 @@
--- Checks 1 to 15 of document 01, by their numbers, each with its sentence; then which of them a call makes, in order.
+-- Checks 1 to 15 of documents 01 and 02, by their numbers, each with its sentence; then which of them a call makes, in order.
 use mathlib.Core.Path.{_≡_}
 use mathlib.Core.Bool.{Bool, false}
 use mathlib.Core.Logic.{_⊎_}
@@ -11,8 +11,9 @@ use Rattle.rules.specs.declared.Row.{Row}
 use Rattle.rules.specs.declared.Soil.{Soil}
 use Rattle.rules.specs.declared.Pile.{Pile}
 use Rattle.rules.specs.Base.{pick, both, either, neg, within, nothing, refuses, when, inOrder, allZero}
-use Rattle.rules.specs.Records.{rowSize, pileSize}
+use Rattle.rules.specs.Records.{rowSize, plainSize, gradedSize}
 use Rattle.rules.specs.Limits.{limitOf, tableSize, placeLimit, thicknessLimit, depthLimit, tipLimit}
+use Rattle.rules.specs.Grades.{cutDepth}
 use Rattle.rules.specs.Packed.{countOf, rowAt, rowsOf, pileOf}
 use Rattle.rules.specs.Ground.{soilAt, depthOf}
 use Rattle.rules.specs.Pieces.{runTop}
@@ -27,9 +28,13 @@ longOther n s = neg (eqb (length s) n)
 abbrev pub formless : List ℕ → Bool
 formless log = eqb (limitOf log) 0
 
--- of the pieces of a calculation: the log has the length of a form, the pile record its own, the table the length that goes with that form
+-- 1 of a pile record: it has neither 8 bytes nor, 02 (i), 10
+abbrev pub pileLengthWrong : List ℕ → Bool
+pileLengthWrong pile = both (longOther plainSize pile) (longOther gradedSize pile)
+
+-- of the pieces of a calculation: the log has the length of a form, the pile record one of its two, the table the length that goes with that form
 abbrev pub lengthsWrong : List ℕ → List ℕ → List ℕ → Bool
-lengthsWrong log pile table = either (formless log) (either (longOther pileSize pile) (longOther (tableSize (limitOf log)) table))
+lengthsWrong log pile table = either (formless log) (either (pileLengthWrong pile) (longOther (tableSize (limitOf log)) table))
 
 -- of those of an edit, with the new row where its kind brings one, "as its five packed bytes (another length is refusal 1)": "what an edit's
 -- kind doesn't use is not looked at"
@@ -97,9 +102,15 @@ sectionCheck p = let f = wrongPileField p in pick (ltb 0 f) (record { number = 5
 abbrev pub methodWrong : Pile → Bool
 methodWrong p = neg (within 1 3 (p .method))
 
--- 7: "head not above tip, or tip under 3,000 or over 40,000"
+-- 7: "head not above tip, or tip under 3,000 or over 40,000"; 02 (i): "also when the head is above the cut level, or the tip's depth as read is
+-- over 40,000"
 abbrev pub depthsWrong : Pile → Bool
-depthsWrong p = either (leb (p .tip) (p .head)) (either (ltb (p .tip) 3000) (ltb tipLimit (p .tip)))
+depthsWrong p =
+    either (leb (p .tip) (p .head))
+    (either (ltb (p .tip) 3000)
+    (either (ltb tipLimit (p .tip))
+    (either (ltb (p .head) (cutDepth (p .grade)))
+    (ltb tipLimit (tipOf p)))))
 
 -- 8: "log ends less than 5,000 below the tip"
 abbrev pub logShort : ℕ → Pile → Bool

@@ -3,6 +3,7 @@ pub mod Base
 pub mod Widths
 pub mod Records
 pub mod Limits
+pub mod Grades
 pub mod Bounds
 pub mod Packed
 pub mod Ground

@@ -1,4 +1,4 @@
--- Counts and lengths of document 01, each named once; the sizes of records are in Records. (Other ranges of fields, and the numbers of checks
+-- Counts and lengths of documents 01 and 02, each named once; the sizes of records are in Records. (Other ranges of fields, and the numbers of checks
 -- 7 to 12, stand with their sentences.)
 use mathlib.Core.List.{List, [], _∷_}
 use Prim.Native.Nat.{ℕ, _+_, _*_}
@@ -57,3 +57,7 @@ sliceThickness = 2000
 -- "over 40,000"
 abbrev pub tipLimit : ℕ
 tipLimit = 40000
+
+-- 02 (i): "Up to 3,000 either way, tables are read as before.": a grade that moves no reading
+abbrev pub freeGrade : ℕ
+freeGrade = 3000

@@ -10,6 +10,7 @@ use Rattle.rules.specs.declared.Spot.{Spot}
 use Rattle.rules.specs.declared.TipRead.{TipRead}
 use Rattle.rules.specs.declared.TipRead.the-variants.{Dashed, Pascals}
 use Rattle.rules.specs.Base.{pick}
+use Rattle.rules.specs.Grades.{asRead}
 use Rattle.rules.specs.Pieces.{Piece, pieces}
 use Rattle.rules.specs.Tables.{spotIn, frictionDepths, frictionRows, tipDepths, tipRows, frictionAt, tipAt, dashAt}
 
@@ -22,14 +23,14 @@ sand s = leb (s .kind) 3
 abbrev pub hundredths : Soil → ℕ
 hundredths s = pick (sand s) ((s .kind - 1) * 10) (max 120 (s .index) - 120)
 
--- "at the slice's mid-depth, which may fall on half a millimetre": in half millimetres. Depths reach the two tables only through
--- midOf and tipOf; of the pile midOf uses nothing.
+-- "at the slice's mid-depth, which may fall on half a millimetre": in half millimetres, as read. Depths reach the two tables only through
+-- midOf and tipOf; every other depth stays "measured from natural ground".
 abbrev pub midOf : Pile → ℕ → ℕ → ℕ
-midOf p top thickness = top + top + thickness
+midOf p top thickness = asRead (p .grade) 2 (top + top + thickness)
 
--- "at the tip depth": in millimetres
+-- "at the tip depth": in millimetres, as read
 abbrev pub tipOf : Pile → ℕ
-tipOf p = p .tip
+tipOf p = asRead (p .grade) 1 (p .tip)
 
 abbrev pub frictionSpot : Soil → ℕ → Spot
 frictionSpot s mid = spotIn frictionDepths frictionRows 2000 mid (hundredths s)
@@ -63,7 +64,7 @@ sliceEach p (c ∷ cs) = sliceOf p c ∷ sliceEach p cs
 abbrev pub belowTip : Pile → ℕ
 belowTip p = p .tip
 
--- the slices of the shaft, from head to tip
+-- the slices of the shaft, from head to tip. 02 (i): "Fill carries no friction.": it lies above natural ground, from which every depth counts
 abbrev pub shaftSlices : (ℕ → Soil) → Pile → List Slice
 shaftSlices g p = sliceEach p (pieces g (p .head) (p .tip))
 

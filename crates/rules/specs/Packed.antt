@@ -1,13 +1,13 @@
 -- The packed forms: the fields of a row, a log, a pile record and a slice as numbers cut from the bytes, and the bytes of given fields.
 use mathlib.Core.List.{List, [], _∷_, _++_}
 use Prim.Native.Nat.{ℕ, zero, suc, _+_, _*_, _-_}
-use lib.ListN.{getD, length, drop, replicate}
+use lib.ListN.{getD, length, take, drop, replicate}
 use Rattle.rules.specs.declared.Row.{Row}
 use Rattle.rules.specs.declared.Log.{Log}
 use Rattle.rules.specs.declared.Pile.{Pile}
 use Rattle.rules.specs.declared.Slice.{Slice}
 use Rattle.rules.specs.Widths.{fieldsOf, join, bytes}
-use Rattle.rules.specs.Records.{rowWidths, rowFrom, rowFields, rowSize, pileWidths, pileFrom, pileFields, pileSize, sliceWidths, sliceFrom, sliceFields, sliceSize}
+use Rattle.rules.specs.Records.{rowWidths, rowFrom, rowFields, rowSize, gradedWidths, gradedSize, pileFrom, pileFields, sliceWidths, sliceFrom, sliceFields, sliceSize}
 use Rattle.rules.specs.Limits.{rowLimit}
 
 -- n bytes from byte i on as one number, the first the most significant; 0 past the end
@@ -35,8 +35,9 @@ logOf s = record { count = countOf s; rows = rowsFrom s 1 rowLimit }
 unfoldable pub rowsOf : List ℕ → List Row
 rowsOf s = rowsFrom s 1 (countOf s)
 
+-- 02 (i): "An 8-byte record reads as grade 0": past its end every bit is 0
 unfoldable pub pileOf : List ℕ → Pile
-pileOf s = pileFrom (fieldsOf pileWidths (numberAt s 0 pileSize))
+pileOf s = pileFrom (fieldsOf gradedWidths (numberAt s 0 gradedSize))
 
 -- place i, counted from 0
 unfoldable pub sliceAt : List ℕ → ℕ → Slice
@@ -46,8 +47,9 @@ sliceAt s i = sliceFrom (fieldsOf sliceWidths (numberAt s (i * sliceSize) sliceS
 unfoldable pub rowBytes : Row → List ℕ
 rowBytes r = fieldsOf (bytes rowSize) (join rowWidths (rowFields r))
 
-unfoldable pub pileBytes : Pile → List ℕ
-pileBytes p = fieldsOf (bytes pileSize) (join pileWidths (pileFields p))
+-- 02 (i): "each length packs back to itself": the first n bytes of the ten, all of them or those before the grade
+unfoldable pub pileBytes : ℕ → Pile → List ℕ
+pileBytes n p = take n (fieldsOf (bytes gradedSize) (join gradedWidths (pileFields p)))
 
 unfoldable pub sliceBytes : Slice → List ℕ
 sliceBytes c = fieldsOf (bytes sliceSize) (join sliceWidths (sliceFields c))

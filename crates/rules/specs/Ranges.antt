@@ -1,7 +1,8 @@
--- The ranges of fields as document 01 gives them, of a row, a log, a pile record and slices, and a pile that stands: facts on numbers, where
+-- The ranges of fields as documents 01 and 02 give them, of a row, a log, a pile record and slices, and a pile that stands: facts on numbers, where
 -- Checks has the tests.
 use mathlib.Core.Path.{_≡_}
 use mathlib.Core.Bool.{false}
+use mathlib.Core.Logic.{_⊎_}
 use mathlib.Core.List.{List, [], _∷_}
 use Prim.Native.Nat.{ℕ, _+_, _^_, _<_, _≤_, max}
 use lib.ListN.{length, getD}
@@ -11,8 +12,9 @@ use Rattle.rules.specs.declared.Soil.{Soil}
 use Rattle.rules.specs.declared.Pile.{Pile}
 use Rattle.rules.specs.declared.Slice.{Slice}
 use Rattle.rules.specs.Widths.{Fits}
-use Rattle.rules.specs.Records.{sliceWidths, sliceFields}
+use Rattle.rules.specs.Records.{plainSize, gradedSize, sliceWidths, sliceFields}
 use Rattle.rules.specs.Limits.{rowLimit, placeLimit, thicknessLimit, tipLimit}
+use Rattle.rules.specs.Grades.{cutDepth}
 use Rattle.rules.specs.Packed.{noRow}
 use Rattle.rules.specs.Pieces.{runTop}
 use Rattle.rules.specs.Numbers.{belowTip, shaftSlices, tipOf, tipRead, isDash}
@@ -56,6 +58,12 @@ pub record PileInRange (p : Pile) : Type 0 where
   pub tip : p .tip < 2 ^ 16
   -- "four zero bits"
   pub zero : p .zero ≡ 0
+  -- 02 (i): "a signed grade in its last 16 bits": every number of 16 bits is one
+  pub grade : p .grade < 2 ^ 16
+
+-- a buffer of n bytes takes its grade: 02 (i): "Packing a grade other than 0 to 8 bytes is refusal 1."
+abbrev pub TakesGrade : ℕ → Pile → Type 0
+TakesGrade n p = (n ≡ gradedSize) ⊎ ((n ≡ plainSize) × (p .grade ≡ 0))
 
 -- slices with some thickness, whose numbers fit their bits
 abbrev pub SlicesFit : List Slice → Type 0
@@ -68,6 +76,9 @@ pub record Sound (g : ℕ → Soil) (depth : ℕ) (p : Pile) : Type 0 where
   -- 7: "head not above tip, or tip under 3,000 or over 40,000"
   pub order : p .head < p .tip
   pub range : Between 3000 tipLimit (p .tip)
+  -- 02 (i): "also when the head is above the cut level, or the tip's depth as read is over 40,000"
+  pub level : cutDepth (p .grade) ≤ p .head
+  pub tipAsRead : tipOf p ≤ tipLimit
   -- 8: "log ends less than 5,000 below the tip"
   pub log : p .tip + 5000 ≤ depth
   -- 9: "sand just below the tip": kinds 1 to 3

@@ -3,7 +3,7 @@ use mathlib.Core.Bool.{Bool, true}
 use mathlib.Core.List.{List, [], _∷_}
 use Prim.Native.Nat.{ℕ}
 use lib.Dec.{ltb, eqb}
-use lib.ListN.{take, drop, replicate}
+use lib.ListN.{length, take, drop, replicate}
 use Rattle.rules.specs.declared.Refusal.{Refusal}
 use Rattle.rules.specs.declared.Row.{Row}
 use Rattle.rules.specs.declared.Log.{Log}
@@ -13,10 +13,10 @@ use Rattle.rules.specs.declared.LogRead.{LogRead}
 use Rattle.rules.specs.declared.PileRead.{PileRead}
 use Rattle.rules.specs.declared.SliceRead.{SliceRead}
 use Rattle.rules.specs.Base.{pick, both, either, neg, refuses, when, inOrder, allZero}
-use Rattle.rules.specs.Records.{rowFields, pileFrom, pileSize, sliceFrom}
+use Rattle.rules.specs.Records.{rowFields, pileFrom, plainSize, sliceFrom}
 use Rattle.rules.specs.Limits.{rowLimit, placesFor, limitOf, tableLimit}
 use Rattle.rules.specs.Packed.{rowsOf, logOf, pileOf, sliceAt, noRow, logBytes, pileBytes}
-use Rattle.rules.specs.Checks.{longOther, formless, countWrong, unusedWrong, firstWrong, sectionCheck, methodWrong}
+use Rattle.rules.specs.Checks.{formless, pileLengthWrong, countWrong, unusedWrong, firstWrong, sectionCheck, methodWrong}
 
 -- "a refused reading gives zero fields"
 abbrev pub noLog : Log
@@ -33,10 +33,39 @@ readLog s =
     let r = inOrder (when (formless s) 1 ∷ when (unusedWrong s) 2 ∷ firstWrong 1 (rowsOf s) ∷ []) in
     record { refusal = r; log = pick (refuses r) noLog (logOf s) }
 
+-- what a reading tells of a pile record: its refusal, its length and its fields, the grade as the number of its 16 bits
+abbrev pub pileTold : Refusal → ℕ → Pile → PileRead
+pileTold r n p = record {
+  refusal = r;
+  length = n;
+  section = p .section;
+  a = p .a;
+  b = p .b;
+  method = p .method;
+  head = p .head;
+  tip = p .tip;
+  zero = p .zero;
+  grade = p .grade;
+}
+
+-- the fields of a reading, and of what is given to a packing, which looks at no other
+abbrev pub pileOfRead : PileRead → Pile
+pileOfRead r = record {
+  section = r .section;
+  a = r .a;
+  b = r .b;
+  method = r .method;
+  head = r .head;
+  tip = r .tip;
+  zero = r .zero;
+  grade = r .grade;
+}
+
+-- 02 (i): "each length packs back to itself, so a reading also tells the length": 0 where it is refused
 unfoldable pub readPile : List ℕ → PileRead
 readPile s =
-    let r = inOrder (when (longOther pileSize s) 1 ∷ sectionCheck (pileOf s) ∷ when (methodWrong (pileOf s)) 6 ∷ []) in
-    record { refusal = r; pile = pick (refuses r) noPile (pileOf s) }
+    let r = inOrder (when (pileLengthWrong s) 1 ∷ sectionCheck (pileOf s) ∷ when (methodWrong (pileOf s)) 6 ∷ []) in
+    pileTold r (pick (refuses r) 0 (length s)) (pick (refuses r) noPile (pileOf s))
 
 -- one place of a slice table, counted from 0; past the last: all zero
 unfoldable pub readSlice : List ℕ → ℕ → SliceRead
@@ -63,8 +92,12 @@ packLogCheck l s = inOrder (when (formless s) 1 ∷ when (unusedFields (limitOf 
 unfoldable pub packedLog : Log → List ℕ → List ℕ
 packedLog l s = pick (refuses (packLogCheck l s)) s (logBytes (limitOf s) l)
 
+-- 02 (i): "Packing a grade other than 0 to 8 bytes is refusal 1."
+abbrev pub gradeLost : ℕ → List ℕ → Bool
+gradeLost grade s = both (eqb (length s) plainSize) (neg (eqb grade 0))
+
 unfoldable pub packPileCheck : Pile → List ℕ → Refusal
-packPileCheck p s = inOrder (when (longOther pileSize s) 1 ∷ sectionCheck p ∷ when (methodWrong p) 6 ∷ [])
+packPileCheck p s = inOrder (when (either (pileLengthWrong s) (gradeLost (p .grade) s)) 1 ∷ sectionCheck p ∷ when (methodWrong p) 6 ∷ [])
 
 unfoldable pub packedPile : Pile → List ℕ → List ℕ
-packedPile p s = pick (refuses (packPileCheck p s)) s (pileBytes p)
+packedPile p s = pick (refuses (packPileCheck p s)) s (pileBytes (length s) p)

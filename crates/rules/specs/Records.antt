@@ -1,5 +1,5 @@
--- The records of document 01, each a list of widths in bits in the order of its fields: a row, a pile record, a slice; and the bytes of each.
-use mathlib.Core.List.{List, [], _∷_}
+-- The records of documents 01 and 02, each a list of widths in bits in the order of its fields: a row, a pile record, a slice; and the bytes of each.
+use mathlib.Core.List.{List, [], _∷_, _++_}
 use Prim.Native.Nat.{ℕ, _/_}
 use lib.ListN.{getD}
 use Rattle.rules.specs.declared.Row.{Row}
@@ -26,18 +26,26 @@ abbrev pub rowSize : ℕ
 rowSize = sizeOf rowWidths
 
 -- "section kind 2 bits (1 circle, 2 rectangle); a 12 bits; b 12 bits; method 2 bits; head depth 16; tip depth 16; four zero bits"
-abbrev pub pileWidths : List ℕ
-pileWidths = 2 ∷ 12 ∷ 12 ∷ 2 ∷ 16 ∷ 16 ∷ 4 ∷ []
+abbrev pub plainWidths : List ℕ
+plainWidths = 2 ∷ 12 ∷ 12 ∷ 2 ∷ 16 ∷ 16 ∷ 4 ∷ []
+
+-- 02 (i): "The pile record grows to 10 bytes with a signed grade in its last 16 bits"
+abbrev pub gradedWidths : List ℕ
+gradedWidths = plainWidths ++ (16 ∷ [])
 
 abbrev pub pileFrom : List ℕ → Pile
-pileFrom f = record { section = getD f 0 0; a = getD f 1 0; b = getD f 2 0; method = getD f 3 0; head = getD f 4 0; tip = getD f 5 0; zero = getD f 6 0 }
+pileFrom f = record { section = getD f 0 0; a = getD f 1 0; b = getD f 2 0; method = getD f 3 0; head = getD f 4 0; tip = getD f 5 0; zero = getD f 6 0; grade = getD f 7 0 }
 
 abbrev pub pileFields : Pile → List ℕ
-pileFields p = p .section ∷ p .a ∷ p .b ∷ p .method ∷ p .head ∷ p .tip ∷ p .zero ∷ []
+pileFields p = p .section ∷ p .a ∷ p .b ∷ p .method ∷ p .head ∷ p .tip ∷ p .zero ∷ p .grade ∷ []
 
--- "Pile record, exactly 8 bytes"
-abbrev pub pileSize : ℕ
-pileSize = sizeOf pileWidths
+-- "Pile record, exactly 8 bytes": one without a grade
+abbrev pub plainSize : ℕ
+plainSize = sizeOf plainWidths
+
+-- 02 (i): "10 bytes": one with a grade
+abbrev pub gradedSize : ℕ
+gradedSize = sizeOf gradedWidths
 
 -- "top depth 16 bits, thickness 11, friction 25, method factor in tenths 4"
 abbrev pub sliceWidths : List ℕ

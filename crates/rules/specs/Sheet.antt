@@ -1,12 +1,12 @@
 -- The sheet: the text that the sheet program prints for the bytes it reads.
 use mathlib.Core.List.{List, [], _∷_, _++_}
 use Prim.Native.Nat.{ℕ, zero, suc, _+_, _/_, _%_}
-use lib.Dec.{ltb}
+use lib.Dec.{ltb, eqb}
 use lib.ListN.{length, take, drop, replicate}
 use Rattle.rules.specs.declared.Answer.{Answer}
 use Rattle.rules.specs.declared.Slice.{Slice}
 use Rattle.rules.specs.Base.{pick, refuses}
-use Rattle.rules.specs.Records.{pileSize, sliceFields}
+use Rattle.rules.specs.Records.{plainSize, gradedSize, sliceFields}
 use Rattle.rules.specs.Limits.{forms, formBy, logSize, tableSize}
 use Rattle.rules.specs.Packed.{rowsOf, pileOf}
 use Rattle.rules.specs.Calculation.{calculated, heldSlicesOf}
@@ -58,10 +58,14 @@ totalLine a = textLine totalWord (a .line ∷ a .tip ∷ a .shaft ∷ a .capacit
 unfoldable pub sheetOf : Answer → List Slice → List ℕ
 sheetOf a cs = answerLine a ++ pick (refuses (a .refusal)) [] (sliceLines cs ++ totalLine a)
 
--- "reads 329 bytes from standard input, log then pile record; any other length is refusal 1": the form whose log and pile record together are
--- so long; where there is none, 0, and then the log is cut to one byte at most, which is refusal 1
+-- "reads 329 bytes from standard input, log then pile record; any other length is refusal 1"; 02 (i): "The sheet program takes 329 or 331 bytes.":
+-- the form whose log and pile record, without a grade or with one, together are so long; where there is none, 0, and then the log is cut to one
+-- byte at most, which is refusal 1
 unfoldable pub inputLimit : List ℕ → ℕ
-inputLimit input = formBy (λ n. logSize n + pileSize) forms (length input)
+inputLimit input =
+    let plain = formBy (λ n. logSize n + plainSize) forms (length input) in
+    let graded = formBy (λ n. logSize n + gradedSize) forms (length input) in
+    pick (eqb plain 0) graded plain
 
 abbrev pub inputLog : ℕ → List ℕ → List ℕ
 inputLog n input = take (logSize n) input

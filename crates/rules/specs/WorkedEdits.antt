@@ -1,4 +1,4 @@
--- Worked edits: each of the four kinds accepted, refusals 13, 14, 3 and 4 once each, and an accepted edit that holds a refusal of the pile. Every
+-- Worked edits: each of the four kinds accepted, one on a graded site, refusals 13, 14, 3 and 4 once each, and an accepted edit that holds a refusal of the pile. Every
 -- reply, log and table is from the second program (second/).
 use mathlib.Core.List.{List, [], _∷_, map}
 use Prim.Native.Nat.{ℕ}
@@ -7,11 +7,12 @@ use Rattle.rules.specs.declared.Row.{Row}
 use Rattle.rules.specs.declared.Pile.{Pile}
 use Rattle.rules.specs.declared.Slice.{Slice}
 use Rattle.rules.specs.Records.{sliceFrom}
+use Rattle.rules.specs.Grades.{withGrade}
 use Rattle.rules.specs.Limits.{rowLimit, tableSize}
-use Rattle.rules.specs.Packed.{rowBytes, pileBytes, tableBytes}
+use Rattle.rules.specs.Packed.{rowBytes, tableBytes}
 use Rattle.rules.specs.Edits.{Edit, asked}
 use Rattle.rules.specs.EditReplies.{editReply, editLog, editTable}
-use Rattle.rules.specs.Cases.{logIn, replyOf, row, clay, fineSand, pileA, barsA}
+use Rattle.rules.specs.Cases.{logIn, pileRecord, replyOf, row, clay, fineSand, filled, pileA, barsA}
 
 pub record WorkedEdit : Type 0 where
   pub edit : Edit
@@ -36,7 +37,7 @@ rightAfter c = c .reply ∷ logIn (c .rowsAfter) ∷ tableOf (c .slicesAfter) �
 abbrev pub foundAfter : WorkedEdit → List (List ℕ)
 foundAfter c =
     let log = logIn (c .rows) in
-    let pile = pileBytes (c .pile) in
+    let pile = pileRecord (c .pile) in
     let table = tableOf (c .lent) in
     replyOf (editReply (c .edit) log pile table) ∷ editLog (c .edit) log pile table ∷ editTable (c .edit) log pile table ∷ []
 
@@ -62,9 +63,13 @@ rowsG = fineSand 4000 ∷ clay 16000 130
 abbrev pub slicesG : List Slice
 slicesG = slice 1000 2000 6000000 7 ∷ slice 3000 1000 7300000 7 ∷ slice 4000 2000 8000000 6 ∷ slice 6000 2000 8600000 6 ∷ slice 8000 2000 9000000 6 ∷ []
 
--- an edit of these rows for A's pile, with G's slices lent; its reply, and the log and the table it leaves
+-- an edit of these rows for a pile, with G's slices lent; its reply, and the log and the table it leaves
+abbrev pub workedFor : Pile → Edit → List Row → List ℕ → List Row → List Slice → WorkedEdit
+workedFor p e rs reply now cs = record { edit = e; rows = rs; pile = p; lent = slicesG; reply = reply; rowsAfter = now; slicesAfter = cs }
+
+-- for A's pile
 abbrev pub workedEdit : Edit → List Row → List ℕ → List Row → List Slice → WorkedEdit
-workedEdit e rs reply now cs = record { edit = e; rows = rs; pile = pileA; lent = slicesG; reply = reply; rowsAfter = now; slicesAfter = cs }
+workedEdit e rs reply now cs = workedFor pileA e rs reply now cs
 
 -- refused by a number, with row and field: "A refused edit .. changes no buffer."
 abbrev pub refusedEdit : Edit → List Row → ℕ → ℕ → ℕ → WorkedEdit
@@ -77,6 +82,11 @@ workedEdits =
     (0 ∷ 0 ∷ 0 ∷ 2 ∷ 201050 ∷ 247400 ∷ 378970 ∷ 626370 ∷ 303176 ∷ [])
     (fineSand 4000 ∷ clay 16000 135)
     (slice 1000 2000 6000000 7 ∷ slice 3000 1000 7300000 7 ∷ slice 4000 2000 6900000 6 ∷ slice 6000 2000 7500000 6 ∷ slice 8000 2000 7850000 6 ∷ []) ∷
+    -- 02 (i), the same on a fill of 5,000: every friction is read deeper than in the lent table, and no slice is kept
+    workedFor (withGrade (filled 5000) pileA) (replace 2 (row 16000 6 135 95)) rowsG
+    (0 ∷ 0 ∷ 0 ∷ 0 ∷ 223080 ∷ 289811 ∷ 420495 ∷ 710306 ∷ 336396 ∷ [])
+    (fineSand 4000 ∷ clay 16000 135)
+    (slice 1000 2000 7600000 7 ∷ slice 3000 1000 8200000 7 ∷ slice 4000 2000 7500000 6 ∷ slice 6000 2000 7850000 6 ∷ slice 8000 2000 8180000 6 ∷ []) ∷
     -- 2,000 of loam between the two: kept "stops at the first slice whose bytes differ", though the last two are as lent
     workedEdit (insert 2 (row 2000 5 140 95)) rowsG
     (0 ∷ 0 ∷ 0 ∷ 2 ∷ 213750 ∷ 268605 ∷ 402908 ∷ 671513 ∷ 322326 ∷ [])

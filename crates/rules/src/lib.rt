@@ -4,6 +4,7 @@ mod limits;
 mod widths;
 
 pub use limits::DEPTH_LIMIT;
+pub use limits::FREE_GRADE;
 pub use limits::LOG_SIZE;
 pub use limits::MORE_PLACES;
 pub use limits::PLACE_LIMIT;
@@ -12,14 +13,16 @@ pub use limits::TABLE_SIZE;
 pub use limits::THICKEST_SLICE;
 pub use limits::THICKNESS_LIMIT;
 pub use limits::TIP_LIMIT;
+pub use widths::GRADED_SIZE;
 pub use widths::PILE_A;
 pub use widths::PILE_B;
+pub use widths::PILE_GRADE;
 pub use widths::PILE_HEAD;
 pub use widths::PILE_METHOD;
 pub use widths::PILE_SECTION;
-pub use widths::PILE_SIZE;
 pub use widths::PILE_TIP;
 pub use widths::PILE_ZERO;
+pub use widths::PLAIN_SIZE;
 pub use widths::ROW_INDEX;
 pub use widths::ROW_KIND;
 pub use widths::ROW_SATURATION;
@@ -57,8 +60,7 @@ pub struct Log {
     pub rows: [Row; ROW_LIMIT],
 }
 
-// A pile record, its fields in order.
-#[repr(C)]
+// A pile record, its fields in order. The grade is its 16 bits in two's complement, as a number.
 pub struct Pile {
     pub section: u8,
     pub a: u16,
@@ -67,6 +69,7 @@ pub struct Pile {
     pub head: u16,
     pub tip: u16,
     pub zero: u8,
+    pub grade: u16,
 }
 
 // A slice as the table holds it: friction in 1/200 Pa, factor in tenths.
@@ -85,10 +88,20 @@ pub struct LogRead {
     pub log: Log,
 }
 
+// The fields of a pile record stand flat: between a length of one byte and a section of one byte no struct can begin. The length is 8 or 10,
+// or 0 where the reading is refused.
 #[repr(C)]
 pub struct PileRead {
     pub refusal: Refusal,
-    pub pile: Pile,
+    pub length: u8,
+    pub section: u8,
+    pub a: u16,
+    pub b: u16,
+    pub method: u8,
+    pub head: u16,
+    pub tip: u16,
+    pub zero: u8,
+    pub grade: u16,
 }
 
 #[repr(C)]

@@ -22,3 +22,6 @@ pub const DEPTH_LIMIT: u64 = 60000;
 pub const THICKEST_SLICE: u64 = 2000;
 
 pub const TIP_LIMIT: u64 = 40000;
+
+// The grade up to which the tables are read as they stand.
+pub const FREE_GRADE: u64 = 3000;

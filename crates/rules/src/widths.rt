@@ -25,7 +25,10 @@ pub const PILE_TIP: usize = 16;
 
 pub const PILE_ZERO: usize = 4;
 
-pub const PILE_SIZE: usize = (PILE_SECTION
+pub const PILE_GRADE: usize = 16;
+
+// A pile record without a grade, and one with it.
+pub const PLAIN_SIZE: usize = (PILE_SECTION
     + PILE_A
     + PILE_B
     + PILE_METHOD
@@ -33,6 +36,8 @@ pub const PILE_SIZE: usize = (PILE_SECTION
     + PILE_TIP
     + PILE_ZERO)
     / 8;
+
+pub const GRADED_SIZE: usize = PLAIN_SIZE + PILE_GRADE / 8;
 
 pub const SLICE_TOP: usize = 16;
 

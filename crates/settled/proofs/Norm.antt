@@ -10,6 +10,7 @@ use Rattle.norm_friction.proofs as norm-friction
 use Rattle.norm_tips.proofs as norm-tips
 use Rattle.norm_tip_reads.proofs as norm-tip-reads
 use Rattle.norm_factors.proofs as norm-factors
+use Rattle.norm_grades.proofs as norm-grades
 
 pub past : Settled norm-columns.past.Kinds.ps norm-columns.past.Kinds.r norm-columns.past.Reads.Pre norm-columns.past.Reads.Learnt
 past _ _ _ h g = cc
@@ -52,3 +53,12 @@ is-dash _ _ _ h g = cc
 
 pub factor : Settled norm-factors.factor.Kinds.ps norm-factors.factor.Kinds.r norm-factors.factor.Reads.Pre norm-factors.factor.Reads.Learnt
 factor _ _ _ h g = cc
+
+pub cut-depth : Settled norm-grades.cut_depth.Kinds.ps norm-grades.cut_depth.Kinds.r norm-grades.cut_depth.Reads.Pre norm-grades.cut_depth.Reads.Learnt
+cut-depth _ _ _ h g = cc
+
+pub shift-of : Settled norm-grades.shift_of.Kinds.ps norm-grades.shift_of.Kinds.r norm-grades.shift_of.Reads.Pre norm-grades.shift_of.Reads.Learnt
+shift-of _ _ _ h g = cc
+
+pub depth-read : Settled norm-grades.depth_read.Kinds.ps norm-grades.depth_read.Kinds.r norm-grades.depth_read.Reads.Pre norm-grades.depth_read.Reads.Learnt
+depth-read _ _ _ h g = cc

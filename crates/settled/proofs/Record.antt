@@ -16,6 +16,7 @@ use Rattle.record_log_checks.proofs as record-log-checks
 use Rattle.record_logs.proofs as record-logs
 use Rattle.record_packing.proofs as record-packing
 use Rattle.record_piles.proofs as record-piles
+use Rattle.record_pile_bytes.proofs as record-pile-bytes
 use Rattle.record_slices.proofs as record-slices
 use Rattle.record_slice_table.proofs as record-slice-table
 
@@ -73,6 +74,9 @@ row-limit _ _ _ h g = cc
 pub table-limit : Settled record-lengths.table_limit.Kinds.ps record-lengths.table_limit.Kinds.r record-lengths.table_limit.Reads.Pre record-lengths.table_limit.Reads.Learnt
 table-limit _ _ _ h g = cc
 
+pub pile-length-wrong : Settled record-lengths.pile_length_wrong.Kinds.ps record-lengths.pile_length_wrong.Kinds.r record-lengths.pile_length_wrong.Reads.Pre record-lengths.pile_length_wrong.Reads.Learnt
+pile-length-wrong _ _ _ h g = cc
+
 pub lengths-wrong : Settled record-lengths.lengths_wrong.Kinds.ps record-lengths.lengths_wrong.Kinds.r record-lengths.lengths_wrong.Reads.Pre record-lengths.lengths_wrong.Reads.Learnt
 lengths-wrong _ _ _ h g = cc
 
@@ -100,7 +104,7 @@ take-pile _ _ _ h g = cc
 pub read-pile : Settled record-piles.read_pile.Kinds.ps record-piles.read_pile.Kinds.r record-piles.read_pile.Reads.Pre record-piles.read_pile.Reads.Learnt
 read-pile _ _ _ h g = cc
 
-pub pack-pile : Settled record-piles.pack_pile.Kinds.ps record-piles.pack_pile.Kinds.r record-piles.pack_pile.Reads.Pre record-piles.pack_pile.Reads.Learnt
+pub pack-pile : Settled record-pile-bytes.pack_pile.Kinds.ps record-pile-bytes.pack_pile.Kinds.r record-pile-bytes.pack_pile.Reads.Pre record-pile-bytes.pack_pile.Reads.Learnt
 pack-pile _ _ _ h g = (cc, cc)
 
 pub read-slice : Settled record-slices.read_slice.Kinds.ps record-slices.read_slice.Kinds.r record-slices.read_slice.Reads.Pre record-slices.read_slice.Reads.Learnt

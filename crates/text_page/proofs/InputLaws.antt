@@ -12,7 +12,6 @@ use borrow.Author.Tests.{eqb-true, eqb-false, eq-eqb, ne-eqb}
 use Rattle.rules.specs.declared.Answer.{Answer}
 use Rattle.rules.specs.declared.Slice.{Slice}
 use Rattle.rules.specs.Base.{pick, refuses, when}
-use Rattle.rules.specs.Records.{pileSize}
 use Rattle.rules.specs.Limits.{forms, logSize, tableSize, formBy, limitOf, tableLimit}
 use Rattle.rules.specs.Packed.{rowsOf, pileOf}
 use Rattle.rules.specs.Checks.{lengthsWrong, lentChecks}
@@ -26,21 +25,17 @@ use Rattle.text_page.specs.Pages.{pageSize}
 use Rattle.text_page.specs.Places.{TableOf, Printable}
 use Rattle.ground_cuts.proofs.FitLaws.{rows-fit}
 
--- a log with a pile record behind it: its form is told by the length less that of the record
-behind : (ns : List ℕ) (len : ℕ) → formBy logSize ns (len - pileSize) ≡ formBy (λ n. logSize n + pileSize) ns len
-behind [] len = refl
-behind (n ∷ ns) len = rw (test, behind ns len)
+-- a log with a pile record of so many bytes behind it: its form is told by the length less that of the record
+pub behind : (size : ℕ) (ns : List ℕ) (len : ℕ) → formBy logSize ns (len - size) ≡ formBy (λ n. logSize n + size) ns len
+behind size [] len = refl
+behind size (n ∷ ns) len = rw (test, behind size ns len)
   where
-    test : eqb (len - pileSize) (logSize n) ≡ eqb len (logSize n + pileSize)
+    test : eqb (len - size) (logSize n) ≡ eqb len (logSize n + size)
     test =
         ⊎-elim
-        (λ (h : eqb (len - pileSize) (logSize n) ≡ true). h ∙ sym (eq-eqb len (logSize n + pileSize) (omega (arith, eqb-true (len - pileSize) (logSize n) h))))
-        (λ (h : eqb (len - pileSize) (logSize n) ≡ false). h ∙ sym (ne-eqb len (logSize n + pileSize) (λ e. eqb-false (len - pileSize) (logSize n) h (omega arith))))
-        (sure (eqb (len - pileSize) (logSize n)))
-
-pub input-form : (input : List ℕ) → inputLimit input ≡ formBy logSize forms (length input - pileSize)
-unfolding inputLimit
-input-form input = sym (behind forms (length input))
+        (λ (h : eqb (len - size) (logSize n) ≡ true). h ∙ sym (eq-eqb len (logSize n + size) (omega (arith, eqb-true (len - size) (logSize n) h))))
+        (λ (h : eqb (len - size) (logSize n) ≡ false). h ∙ sym (ne-eqb len (logSize n + size) (λ e. eqb-false (len - size) (logSize n) h (omega arith))))
+        (sure (eqb (len - size) (logSize n)))
 
 -- the cut at the end of the log, also where the input is shorter
 pub cut-same : (s : List ℕ) (k end : ℕ) → end ≡ min k (length s) → (take end s ≡ take k s) × (drop end s ≡ drop k s)

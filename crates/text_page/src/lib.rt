@@ -1,16 +1,17 @@
 // The sheet of a log and a pile record, laid out on a page.
 use record_lengths::row_limit;
 use rules::Answer;
+use rules::GRADED_SIZE;
 use rules::MORE_PLACES;
-use rules::PILE_SIZE;
+use rules::PLAIN_SIZE;
 use rules::ROW_SIZE;
 use rules::SLICE_SIZE;
 use rules::TABLE_SIZE;
 ghost use mathlib.Core.Path.{_≡_};
 ghost use mathlib.Core.List.{List};
-ghost use Prim.Native.Nat.{_≤_, min};
+ghost use Prim.Native.Nat.{_+_, _≤_, min};
 ghost use lib.ListN.{length, replicate};
-ghost use Rattle.rules.specs.Limits.{rowLimit, logSize, tableSize};
+ghost use Rattle.rules.specs.Limits.{rowLimit, forms, formBy, logSize, tableSize};
 ghost use Rattle.rules.specs.Sheet.{inputLimit, sheetOf, sheetText};
 ghost use Rattle.rules.specs.declared.Slice.{Slice};
 ghost use Rattle.text_lines.specs.Lines.{Holds};
@@ -48,14 +49,25 @@ fn lay_out(bytes: &mut [u8], answer: Answer, table: &[u8]) -> usize
     }
 }
 
-// The row limit of an input, by its length: that of the log before a pile record; 0 where the input has no form's length.
+// The row limit of a log that so many bytes of pile record follow, in an input of len bytes; 0 where no form has the log's length.
+fn limit_before(size: usize, len: usize) -> usize
+    ensures { λ r. ⌜ (r ≡ formBy (λ n. logSize n + size) forms len) × (r ≤ rowLimit) ⌝ }
+{
+    if len < size {
+        return 0;
+    }
+    row_limit(len - size)
+}
+
+// The row limit of an input, by its length: that of the log before a pile record, without a grade or with one; else 0.
 fn input_limit(input: &[u8]) -> usize
     ensures { λ r. ⌜ (r ≡ inputLimit (now (input .entry))) × (r ≤ rowLimit) ⌝ }
 {
-    if input.len() < PILE_SIZE {
-        return 0;
+    let plain = limit_before(PLAIN_SIZE, input.len());
+    if plain != 0 {
+        return plain;
     }
-    row_limit(input.len() - PILE_SIZE)
+    limit_before(GRADED_SIZE, input.len())
 }
 
 // Where a log of so many row places ends in an input of len bytes.

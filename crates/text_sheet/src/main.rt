@@ -1,11 +1,11 @@
 // The sheet program: a log and a pile record from standard input, their sheet to standard output.
 use libc::STDIN_FILENO;
 use libc::STDOUT_FILENO;
+use rules::GRADED_SIZE;
 use rules::LOG_SIZE;
-use rules::PILE_SIZE;
 
-// One byte more than a log and a pile record have, so that a longer input is noticed.
-const INPUT_SIZE: usize = LOG_SIZE + PILE_SIZE + 1;
+// One byte more than a log and a pile record with a grade have, so that a longer input is noticed.
+const INPUT_SIZE: usize = LOG_SIZE + GRADED_SIZE + 1;
 
 fn main() {
     let mut input = [0u8; INPUT_SIZE];

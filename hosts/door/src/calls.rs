@@ -108,7 +108,7 @@ pub fn read_log(log: &[u8]) -> Log {
     unsafe { psamathyr_read_log(log.as_ptr(), log.len()) }
 }
 
-/// Reads a pile record by itself.
+/// Reads a pile record by itself, and tells its length.
 pub fn read_pile(pile: &[u8]) -> Pile {
     // SAFETY: the pointer comes with its length.
     unsafe { psamathyr_read_pile(pile.as_ptr(), pile.len()) }
@@ -126,7 +126,7 @@ pub fn pack_log(fields: Log, log: &mut [u8]) -> Answer {
     unsafe { psamathyr_pack_log(fields, log.as_mut_ptr(), log.len()) }
 }
 
-/// Packs a pile record by itself; looks at the fields from section to zero.
+/// Packs a pile record by itself, into 8 or 10 bytes; looks at the fields from section to grade.
 pub fn pack_pile(fields: Pile, pile: &mut [u8]) -> Answer {
     // SAFETY: the pointer comes with its length.
     unsafe { psamathyr_pack_pile(fields, pile.as_mut_ptr(), pile.len()) }

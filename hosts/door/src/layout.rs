@@ -36,8 +36,8 @@ assert_layout!(Log: size 400, align 4,
     (rows[0].thickness) at 14, (rows[1].thickness) at 20);
 
 assert_layout!(Pile: size 28, align 4,
-    (refusal) at 0, (row) at 4, (field) at 8, (section) at 12, (a) at 14, (b) at 16,
-    (method) at 18, (head) at 20, (tip) at 22, (zero) at 24);
+    (refusal) at 0, (row) at 4, (field) at 8, (length) at 12, (section) at 13, (a) at 14,
+    (b) at 16, (method) at 18, (head) at 20, (tip) at 22, (zero) at 24, (grade) at 26);
 
 assert_layout!(Slice: size 16, align 4,
     (refusal) at 0, (top) at 4, (thickness) at 6, (friction) at 8, (factor) at 12);

@@ -11,8 +11,10 @@ pub use calls::{
 
 /// Bytes of a log.
 pub const LOG_BYTES: usize = 321;
-/// Bytes of a pile record.
+/// Bytes of a pile record without a grade.
 pub const PILE_BYTES: usize = 8;
+/// Bytes of a pile record with a grade.
+pub const GRADED_PILE_BYTES: usize = 10;
 /// Bytes of a slice table.
 pub const TABLE_BYTES: usize = 581;
 /// Bytes of a packed row.
@@ -100,6 +102,8 @@ pub struct Pile {
     pub row: u32,
     /// The field that is refused, from 1, or 0.
     pub field: u32,
+    /// Bytes of the record that was read, 8 or 10, or 0.
+    pub length: u8,
     /// 1 circle, 2 rectangle.
     pub section: u8,
     /// Diameter or first side, millimetres.
@@ -114,6 +118,8 @@ pub struct Pile {
     pub tip: u16,
     /// 0.
     pub zero: u8,
+    /// Millimetres that the site is graded by: a cut negative, a fill positive; 0 where the record has 8 bytes.
+    pub grade: i16,
 }
 
 /// The fields of a slice: `psamathyr_slice`.

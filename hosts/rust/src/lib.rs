@@ -12,13 +12,28 @@
 //! assert_eq!(table.slices().len(), 5);
 //! assert_eq!(table.slices()[0].friction_200ths_pa, 6_000_000);
 //! ```
+//!
+//! Depths count from natural ground, also where a site is graded. A pile on a graded site has its grade in its record:
+//!
+//! ```
+//! # use psamathyr::{calculate, Kind, Log, Method, Pile, Row, Section, Table};
+//! # let log = Log::of(&[Row { thickness_mm: 20_000, kind: Kind::Clay, index_hundredths: 30, saturation_hundredths: 95 }]).unwrap();
+//! let pile = Pile { section: Section::Circle { diameter_mm: 600 }, method: Method::Dry, head_mm: 1_000, tip_mm: 10_000 };
+//! let filled = pile.graded(5_000).pack().unwrap();
+//! let mut table = Table::new();
+//! assert_eq!(calculate(&log, &filled, &mut table).unwrap().capacity_n, 749_268);
+//! ```
 #![deny(missing_docs)]
 #![forbid(unsafe_code)]
 
+mod pile;
 mod refusal;
 
+pub use pile::{Method, Pile, PileRecord, Section, SitePile};
 use psamathyr_door as door;
-pub use psamathyr_door::{LOG_BYTES, PILE_BYTES, PLACES, ROWS, ROW_BYTES, TABLE_BYTES};
+pub use psamathyr_door::{
+    GRADED_PILE_BYTES, LOG_BYTES, PILE_BYTES, PLACES, ROWS, ROW_BYTES, TABLE_BYTES,
+};
 pub use refusal::Refusal;
 
 /// What stands in a row.
@@ -144,118 +159,6 @@ impl Log {
     }
 }
 
-/// The pile's section.
-#[derive(Clone, Copy, Debug, PartialEq, Eq)]
-pub enum Section {
-    /// Round, 150 to 2,000 mm.
-    Circle {
-        /// The diameter.
-        diameter_mm: u16,
-    },
-    /// A barrette, each side 300 to 4,000 mm.
-    Rectangle {
-        /// One side.
-        a_mm: u16,
-        /// The other.
-        b_mm: u16,
-    },
-}
-
-/// The way the concrete goes in.
-#[derive(Clone, Copy, Debug, PartialEq, Eq)]
-pub enum Method {
-    /// Dry or cased.
-    Dry = 1,
-    /// Under water or slurry.
-    UnderWater = 2,
-    /// Stiff mix vibrated at depth, dry.
-    Vibrated = 3,
-}
-
-/// A pile: section, method, head and tip.
-#[derive(Clone, Copy, Debug, PartialEq, Eq)]
-pub struct Pile {
-    /// The section.
-    pub section: Section,
-    /// The way the concrete goes in.
-    pub method: Method,
-    /// Depth of the head.
-    pub head_mm: u16,
-    /// Depth of the tip.
-    pub tip_mm: u16,
-}
-
-/// A packed pile record of 8 bytes. Any bytes may stand in it; each call judges them.
-#[derive(Clone, Copy, Debug, PartialEq, Eq)]
-pub struct PileRecord {
-    /// The packed bytes.
-    pub bytes: [u8; PILE_BYTES],
-}
-
-impl Pile {
-    /// The packed record.
-    ///
-    /// ```
-    /// use psamathyr::{Method, Pile, Section};
-    /// let pile = Pile { section: Section::Circle { diameter_mm: 600 }, method: Method::Dry, head_mm: 1_000, tip_mm: 10_000 };
-    /// assert_eq!(pile.pack().unwrap().bytes, [0x49, 0x60, 0x00, 0x10, 0x3E, 0x82, 0x71, 0x00]);
-    /// assert_eq!(pile.pack().unwrap().pile().unwrap(), pile);
-    /// ```
-    pub fn pack(self) -> Result<PileRecord, Refusal> {
-        let mut fields = door::Pile::default();
-        match self.section {
-            Section::Circle { diameter_mm } => {
-                fields.section = 1;
-                fields.a = diameter_mm;
-            }
-            Section::Rectangle { a_mm, b_mm } => {
-                fields.section = 2;
-                fields.a = a_mm;
-                fields.b = b_mm;
-            }
-        }
-        fields.method = self.method as u8;
-        fields.head = self.head_mm;
-        fields.tip = self.tip_mm;
-        let mut bytes = [0; PILE_BYTES];
-        let answer = door::pack_pile(fields, &mut bytes);
-        match Refusal::of(answer.refusal, answer.row, answer.field) {
-            Some(refusal) => Err(refusal),
-            None => Ok(PileRecord { bytes }),
-        }
-    }
-}
-
-impl PileRecord {
-    /// The fields.
-    pub fn pile(&self) -> Result<Pile, Refusal> {
-        let fields = door::read_pile(&self.bytes);
-        if let Some(refusal) = Refusal::of(fields.refusal, fields.row, fields.field) {
-            return Err(refusal);
-        }
-        let section = match fields.section {
-            1 => Section::Circle {
-                diameter_mm: fields.a,
-            },
-            _ => Section::Rectangle {
-                a_mm: fields.a,
-                b_mm: fields.b,
-            },
-        };
-        let method = match fields.method {
-            1 => Method::Dry,
-            2 => Method::UnderWater,
-            _ => Method::Vibrated,
-        };
-        Ok(Pile {
-            section,
-            method,
-            head_mm: fields.head,
-            tip_mm: fields.tip,
-        })
-    }
-}
-
 /// A slice of the shaft.
 #[derive(Clone, Copy, Debug, PartialEq, Eq)]
 pub struct Slice {
@@ -337,7 +240,7 @@ impl Numbers {
 
 /// Works out a pile and fills the table. Under refusals 5 to 12 and 15 the table becomes all zero, under 1 to 4 it is left.
 pub fn calculate(log: &Log, pile: &PileRecord, table: &mut Table) -> Result<Numbers, Refusal> {
-    Numbers::of(&door::calculate(&log.bytes, &pile.bytes, &mut table.bytes))
+    Numbers::of(&door::calculate(&log.bytes, pile.bytes(), &mut table.bytes))
 }
 
 /// A change of a log; rows count from 1.
@@ -410,7 +313,7 @@ pub fn edit(
     let row: &[u8] = row.as_ref().map_or(&[], |bytes| bytes);
     let answer = door::edit(
         &mut log.bytes,
-        &pile.bytes,
+        pile.bytes(),
         &mut table.bytes,
         kind,
         k,

@@ -5,7 +5,7 @@ use std::fmt;
 /// Why the core says no.
 #[derive(Clone, Copy, Debug, PartialEq, Eq)]
 pub enum Refusal {
-    /// 1: a lent piece has the wrong length.
+    /// 1: a lent piece has the wrong length, or a grade other than 0 is to be packed to 8 bytes.
     Length,
     /// 2: count 0 or over 64, or an unused row place not zero.
     Count,
@@ -25,7 +25,7 @@ pub enum Refusal {
     },
     /// 6: no such method.
     Method,
-    /// 7: head not above tip, or tip under 3,000 or over 40,000 mm.
+    /// 7: head not above tip, tip under 3,000 or over 40,000 mm, head above the cut level, or tip's depth as read over 40,000 mm.
     Depths,
     /// 8: log ends less than 5,000 mm below the tip.
     LogShort,
@@ -96,7 +96,10 @@ impl Refusal {
 impl fmt::Display for Refusal {
     fn fmt(&self, f: &mut fmt::Formatter<'_>) -> fmt::Result {
         match self {
-            Refusal::Length => write!(f, "a lent piece has the wrong length"),
+            Refusal::Length => write!(
+                f,
+                "a lent piece has the wrong length, or no room for the grade"
+            ),
             Refusal::Count => write!(
                 f,
                 "no row, more than 64 rows, or an unused row place that is not zero"
@@ -112,7 +115,8 @@ impl fmt::Display for Refusal {
             Refusal::Method => write!(f, "no such method"),
             Refusal::Depths => write!(
                 f,
-                "the head is not above the tip, or the tip is under 3,000 or over 40,000 mm"
+                "the head is not above the tip, or is above the cut level; \
+                 or the tip is under 3,000 or over 40,000 mm, or is read as over 40,000 mm"
             ),
             Refusal::LogShort => write!(f, "the log ends less than 5,000 mm below the tip"),
             Refusal::SandTip => write!(f, "sand stands just below the tip"),

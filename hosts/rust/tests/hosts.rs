@@ -1,6 +1,7 @@
 //! The wrapper over the linked core, as a host uses it.
 use psamathyr::{
-    calculate, edit, Edit, Kind, Log, Method, Numbers, Pile, Refusal, Row, Section, Table,
+    calculate, edit, Edit, Kind, Log, Method, Numbers, Pile, PileRecord, Refusal, Row, Section,
+    SitePile, Table,
 };
 
 fn clay(thickness_mm: u16) -> Row {
@@ -68,7 +69,7 @@ fn rows_and_piles_come_back() {
         clay(16_000),
     ];
     assert_eq!(Log::of(&rows).unwrap().rows().unwrap(), rows);
-    assert_eq!(pile().pack().unwrap().pile().unwrap(), pile());
+    assert_eq!(pile().pack().unwrap().read().unwrap(), pile().into());
     let barrette = Pile {
         section: Section::Rectangle {
             a_mm: 800,
@@ -76,7 +77,77 @@ fn rows_and_piles_come_back() {
         },
         ..pile()
     };
-    assert_eq!(barrette.pack().unwrap().pile().unwrap(), barrette);
+    assert_eq!(barrette.pack().unwrap().read().unwrap(), barrette.into());
+}
+
+#[test]
+fn records_keep_their_length() {
+    let plain = pile().pack().unwrap();
+    assert_eq!(plain.bytes().len(), 8);
+    assert_eq!(plain.read().unwrap().grade_mm, None);
+    for grade_mm in [i16::MIN, -3_001, -1, 0, 1, 5_000, i16::MAX] {
+        let record = pile().graded(grade_mm).pack().unwrap();
+        assert_eq!(record.bytes()[..8], *plain.bytes());
+        assert_eq!(record.bytes()[8..], grade_mm.to_be_bytes());
+        assert_eq!(PileRecord::of(record.bytes()), Ok(record));
+        let site = record.read().unwrap();
+        assert_eq!((site.pile, site.grade_mm), (pile(), Some(grade_mm)));
+        assert_eq!(site.pack(), Ok(record));
+    }
+    assert_eq!(
+        PileRecord::Graded([0; 10]).read(),
+        Err(Refusal::Section { field: 1 })
+    );
+    assert_eq!(PileRecord::of(&[]), Err(Refusal::Length));
+}
+
+/// Line, tip, shaft, capacity and uplift of a pile in so much clay.
+fn numbers(thickness_mm: u16, site: SitePile) -> Result<[u64; 5], Refusal> {
+    let log = Log::of(&[clay(thickness_mm)]).unwrap();
+    let it = calculate(&log, &site.pack().unwrap(), &mut Table::new())?;
+    Ok([
+        it.line_n_per_m,
+        it.tip_n,
+        it.shaft_n,
+        it.capacity_n,
+        it.uplift_n,
+    ])
+}
+
+#[test]
+fn graded_sites() {
+    let a = numbers(20_000, pile().into());
+    for grade_mm in [-1_000, 0, 3_000] {
+        assert_eq!(numbers(20_000, pile().graded(grade_mm)), a);
+    }
+    assert_eq!(
+        numbers(20_000, pile().graded(3_001)),
+        Ok([212_111, 268_627, 399_819, 668_446, 319_855])
+    );
+    assert_eq!(
+        numbers(20_000, pile().graded(5_000)),
+        Ok([232_500, 311_017, 438_251, 749_268, 350_600])
+    );
+    let below_the_cut = Pile {
+        head_mm: 5_000,
+        tip_mm: 12_000,
+        ..pile()
+    };
+    assert_eq!(
+        numbers(20_000, below_the_cut.graded(-5_000)),
+        Ok([176_100, 268_605, 331_940, 600_545, 265_552])
+    );
+}
+
+#[test]
+fn depths_of_graded_sites() {
+    assert_eq!(numbers(20_000, pile().graded(-1_001)), Err(Refusal::Depths));
+    let deep = Pile {
+        tip_mm: 30_000,
+        ..pile()
+    };
+    assert!(numbers(35_000, deep.graded(13_000)).is_ok());
+    assert_eq!(numbers(35_000, deep.graded(13_001)), Err(Refusal::Depths));
 }
 
 #[test]
@@ -143,4 +214,21 @@ fn edits_hold_the_answer() {
     )
     .unwrap();
     assert_eq!((back.answer, back.kept), (Ok(A), 0));
+}
+
+#[test]
+fn edits_go_by_the_grade() {
+    let mut log = Log::of(&[clay(20_000)]).unwrap();
+    let mut table = Table::new();
+    calculate(&log, &pile().pack().unwrap(), &mut table).unwrap();
+    let filled = pile().graded(5_000).pack().unwrap();
+    let due = calculate(&log, &filled, &mut Table::new());
+    let split = edit(
+        &mut log,
+        &filled,
+        &mut table,
+        Edit::Split { k: 1, x_mm: 7_777 },
+    )
+    .unwrap();
+    assert_eq!((split.answer, split.kept), (due, 0));
 }

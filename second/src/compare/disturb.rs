@@ -3,20 +3,22 @@
 #![forbid(unsafe_code)]
 
 use super::dice::Dice;
+use super::grades::disturb_grade;
 use super::makers::Site;
 use second::{Pile, Row};
 
-/// One of 22 ways, each as likely as the others.
+/// One of 25 ways, each as likely as the others.
 pub fn disturb(dice: &mut Dice, site: &mut Site) {
     let depth: u32 = site.rows.iter().map(|row| u32::from(row.thickness)).sum();
     let place = dice.below(site.rows.len() as u32) as usize;
-    match dice.below(22) {
+    match dice.below(25) {
         way @ 0..=4 => disturb_depths(dice, &mut site.pile, depth, way),
         way @ 5..=9 => disturb_pile(dice, &mut site.pile, way),
         way @ 10..=14 => disturb_row(dice, &mut site.rows[place], way),
         15 => depth_to_limit(dice, &mut site.rows, depth),
         way @ 16..=19 => disturb_tip_soil(dice, site, way),
         20 => tip_near_end(dice, site, place),
+        21..=23 => disturb_grade(dice, &mut site.pile),
         _ => soil_of_first(&mut site.rows, place),
     }
 }

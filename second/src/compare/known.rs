@@ -192,9 +192,82 @@ fn tips_at(meter: &mut Meter, tip: u32) {
     }
 }
 
-/// The cases A to L with their printed numbers.
+/// Grades beyond 3,000.
+const GRADES: [i32; 6] = [-20_000, -5_500, -3_001, 3_001, 5_500, 20_000];
+
+/// The same depths read on graded sites, where the pile stands as much higher or lower.
+pub fn graded_marks(meter: &mut Meter) {
+    meter.group("around the depths of both tables, graded");
+    for grade in GRADES {
+        for line in printed::FRICTION {
+            let mark = 2_000 * printed::words(line)[0].parse::<i32>().expect("a depth");
+            for middle in mark - 2..=mark + 2 {
+                graded_slice(meter, grade, middle);
+            }
+        }
+        for line in printed::TIP {
+            let mark = 1_000 * printed::words(line)[0].parse::<i32>().expect("a depth");
+            for tip in mark - 1..=mark + 1 {
+                graded_tip(meter, grade, tip);
+            }
+        }
+    }
+}
+
+/// What a grade beyond 3,000 adds to the depths that are read.
+fn beyond(grade: i32) -> i32 {
+    grade - 3_000 * grade.signum()
+}
+
+fn graded(pile: Pile, grade: i32) -> Pile {
+    Pile {
+        length: second::GRADED_PILE as u8,
+        grade: grade as i16,
+        ..pile
+    }
+}
+
+/// A thin slice whose middle is read at so many half millimetres, where the site can have one.
+fn graded_slice(meter: &mut Meter, grade: i32, middle: i32) {
+    let thickness = if middle % 2 == 0 { 2 } else { 1 };
+    let top = (middle - thickness) / 2 - beyond(grade);
+    if top < 0 {
+        return;
+    }
+    let (top, thickness) = (top as u32, thickness as u32);
+    for index in [100, 133, 155, 197] {
+        let tip = (top + thickness + 2_000).max(3_000);
+        let upper = row(top + thickness, 4 + index % 3, index);
+        let lower = row(tip + 5_000 - (top + thickness), 6, 125);
+        let site = Site {
+            rows: vec![upper, lower],
+            pile: graded(square(top, tip), grade),
+        };
+        meter.case(format!("grade {grade}, middle read at {middle} half mm"));
+        meter.calculate(&lend(&site));
+    }
+}
+
+/// A tip that is read at a depth, where the site can have one.
+fn graded_tip(meter: &mut Meter, grade: i32, read: i32) {
+    let tip = read - beyond(grade);
+    if tip < 2_000 {
+        return;
+    }
+    let head = (tip - 2_000).min((-grade).max(0));
+    for index in [100, 125, 140, 141, 160] {
+        let site = Site {
+            rows: vec![row(tip as u32 + 5_000, 6, index)],
+            pile: graded(square(head as u32, tip as u32), grade),
+        };
+        meter.case(format!("grade {grade}, tip read at {read}, index {index}"));
+        meter.calculate(&lend(&site));
+    }
+}
+
+/// The cases A to L with their printed numbers, and those of graded sites.
 pub fn known_cases(meter: &mut Meter) {
-    meter.group("cases A to L");
+    meter.group("cases A to L, and A graded");
     for case in cases::all() {
         meter.case(format!("case {}", case.name));
         let lent = Lending {
@@ -210,7 +283,7 @@ pub fn known_cases(meter: &mut Meter) {
         if let Some(kilopascals) = case.resistance {
             let mut square_metre = second::read_pile(&case.pile);
             (square_metre.section, square_metre.a, square_metre.b) = (2, 1_000, 1_000);
-            let pile = second::pile_bytes(&square_metre).to_vec();
+            let pile = second::pile_bytes(&square_metre);
             let (_, answer, _) = meter.calculate(&Lending { pile, ..lent });
             meter.count(answer.tip == 1_000 * kilopascals, || {
                 format!("  not the known {kilopascals} kPa: {answer:?}")

@@ -3,7 +3,7 @@
 #![forbid(unsafe_code)]
 
 use super::dice::Dice;
-use second::{LOG, PILE, SLICE, SLICES, TABLE};
+use second::{GRADED_PILE, LOG, PILE, SLICE, SLICES, TABLE};
 
 /// What is lent to a call.
 #[derive(Clone, Debug)]
@@ -17,7 +17,10 @@ pub struct Lending {
 pub fn damage(dice: &mut Dice, lent: &mut Lending) {
     match dice.below(12) {
         0 => resize(dice, &mut lent.log, LOG),
-        1 => resize(dice, &mut lent.pile, PILE),
+        1 => {
+            let right = dice.one_of(&[PILE, GRADED_PILE]);
+            resize(dice, &mut lent.pile, right);
+        }
         2 => resize(dice, &mut lent.table, TABLE),
         3 | 4 => flip(dice, &mut lent.log),
         5 | 6 => flip(dice, &mut lent.pile),
@@ -78,6 +81,8 @@ fn resize(dice: &mut Dice, piece: &mut Vec<u8>, right: usize) {
             7,
             8,
             9,
+            10,
+            11,
             256,
             320,
             321,

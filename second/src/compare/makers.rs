@@ -3,6 +3,7 @@
 #![forbid(unsafe_code)]
 
 use super::dice::Dice;
+use super::grades::{below_cut, grade, tip_as_read};
 use second::cases::log_of;
 use second::{pile_bytes, Pile, Row, ROWS};
 
@@ -19,7 +20,7 @@ impl Site {
     }
 
     pub fn pile(&self) -> Vec<u8> {
-        pile_bytes(&self.pile).to_vec()
+        pile_bytes(&self.pile)
     }
 }
 
@@ -61,11 +62,11 @@ fn any_soil(dice: &mut Dice) -> Row {
     soil(dice, kind)
 }
 
-/// A soil in which a tip may stand.
-fn tip_soil(dice: &mut Dice, tip: u32) -> Row {
+/// A soil in which a tip may stand that is read at a depth.
+fn tip_soil(dice: &mut Dice, read: u32) -> Row {
     let kind = dice.between(4, 6) as u8;
     let mut row = soil(dice, kind);
-    let highest = if tip > 20_000 { 140 } else { 160 };
+    let highest = if read > 20_000 { 140 } else { 160 };
     while row.index > highest {
         row.index = if dice.once_in(3) {
             highest
@@ -209,8 +210,10 @@ pub fn good(dice: &mut Dice) -> Site {
     };
     section(dice, &mut pile);
     let top = tip - seat(dice, &pile);
-    let rows = ground(dice, tip, top);
+    grade(dice, &mut pile, top);
+    let rows = ground(dice, &pile, top);
     pile.head = head(dice, tip, top);
+    below_cut(dice, &mut pile);
     Site { rows, pile }
 }
 
@@ -228,8 +231,9 @@ fn seat(dice: &mut Dice, pile: &Pile) -> u32 {
     seat.min(tip)
 }
 
-/// Rows around a tip whose stratum begins at a top.
-fn ground(dice: &mut Dice, tip: u32, top: u32) -> Vec<Row> {
+/// Rows around a pile's tip whose stratum begins at a top.
+fn ground(dice: &mut Dice, pile: &Pile, top: u32) -> Vec<Row> {
+    let tip = u32::from(pile.tip);
     let depth = match dice.below(8) {
         0 => tip + 5_000,
         1 => tip + 5_001,
@@ -250,7 +254,7 @@ fn ground(dice: &mut Dice, tip: u32, top: u32) -> Vec<Row> {
     let mut rows = layers(dice, top, places);
     rows.push(Row {
         thickness: (under - top) as u16,
-        ..tip_soil(dice, tip)
+        ..tip_soil(dice, tip_as_read(pile))
     });
     if under < depth {
         let places = (ROWS - rows.len()).min(4);
@@ -301,6 +305,8 @@ fn fullest(dice: &mut Dice) -> Site {
     if dice.once_in(4) {
         pile.tip = pile.tip - 1 + dice.below(3) as u16;
     }
+    let head = u32::from(pile.head);
+    grade(dice, &mut pile, head);
     Site { rows, pile }
 }
 
@@ -328,6 +334,8 @@ pub fn loose(dice: &mut Dice) -> Site {
         ..Pile::default()
     };
     section(dice, &mut pile);
+    let head = u32::from(pile.head);
+    grade(dice, &mut pile, head);
     Site { rows, pile }
 }
 

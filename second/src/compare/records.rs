@@ -4,9 +4,10 @@
 
 use super::dice::Dice;
 use super::disturb::disturb;
+use super::grades::{disturb_grade, GRADES};
 use super::makers::{good, with_each, ZEROS};
 use super::meter::Meter;
-use second::{pile_bytes, Pile, PILE, SLICES, TABLE};
+use second::{pile_bytes, Pile, GRADED_PILE, PILE, SLICES, TABLE};
 
 /// With and without what two bits can hold.
 const SECTIONS: [u8; 9] = [0, 1, 2, 3, 4, 5, 6, 128, 255];
@@ -29,17 +30,13 @@ pub fn piles(meter: &mut Meter, seed: u64, cases: u64) {
     read_seeded(meter, seed, cases);
 
     meter.group("pile records packed");
-    for len in 0..=12 {
-        meter.case(format!("length {len}"));
-        for pile in [good(dice).pile, good(dice).pile, Pile::default()] {
-            let buffer = dice.bytes(len);
-            meter.pack_pile(&pile, &buffer);
-        }
-    }
+    pack_lengths(meter, dice);
     for pile in &around {
         meter.case(format!("{pile:?}"));
-        let buffer = dice.bytes(PILE);
-        pack_and_read(meter, dice, pile, &buffer);
+        for length in [PILE, GRADED_PILE] {
+            let buffer = dice.bytes(length);
+            pack_and_read(meter, dice, pile, &buffer);
+        }
     }
     pack_seeded(meter, seed, cases);
 }
@@ -57,17 +54,32 @@ fn read_lengths(meter: &mut Meter, dice: &mut Dice) {
     }
 }
 
+/// Good fields and bad ones, with a grade and without, to buffers of every length.
+fn pack_lengths(meter: &mut Meter, dice: &mut Dice) {
+    for len in (0..=20).chain([256 + PILE, 256 + GRADED_PILE, 65_536 + PILE]) {
+        meter.case(format!("length {len}"));
+        for pile in [good(dice).pile, good(dice).pile, Pile::default()] {
+            for grade in [0, pile.grade, 1, -1, i16::MIN] {
+                let buffer = dice.bytes(len);
+                pack_and_read(meter, dice, &Pile { grade, ..pile }, &buffer);
+            }
+        }
+    }
+}
+
 fn read_seeded(meter: &mut Meter, seed: u64, cases: u64) {
     for case in 0..cases {
         let dice = &mut Dice::new(seed, 9, case);
         meter.case(format!("case {case}"));
         let mut pile = if dice.once_in(3) {
-            dice.bytes(PILE)
+            let len = dice.one_of(&[PILE, GRADED_PILE]);
+            dice.bytes(len)
         } else {
             good(dice).pile()
         };
         if dice.once_in(2) {
-            pile[dice.below(8) as usize] ^= 1 << dice.below(8);
+            let place = dice.below(pile.len() as u32) as usize;
+            pile[place] ^= 1 << dice.below(8);
         }
         meter.read_pile(&pile);
     }
@@ -90,18 +102,33 @@ fn pack_seeded(meter: &mut Meter, seed: u64, cases: u64) {
             4 => pile.head = dice.bits() as u16,
             5 => pile.tip = dice.bits() as u16,
             6 => pile.zero = dice.byte(),
+            7 => pile.grade = dice.bits() as i16,
+            8 => disturb_grade(dice, &mut pile),
             _ => {}
         }
-        let buffer = dice.bytes(PILE);
+        let buffer = buffer(dice, &pile);
         pack_and_read(meter, dice, &pile, &buffer);
     }
 }
 
+/// A buffer for a pile's record, mostly of its own length.
+fn buffer(dice: &mut Dice, pile: &Pile) -> Vec<u8> {
+    let len = match dice.below(16) {
+        0..=3 => PILE,
+        4..=7 => GRADED_PILE,
+        8 => dice.one_of(&[7, 9, 11]),
+        _ => usize::from(pile.length),
+    };
+    dice.bytes(len)
+}
+
+/// What is packed reads as what was asked for, but for the fields that a packing does not look at.
 fn pack_and_read(meter: &mut Meter, dice: &mut Dice, pile: &Pile, buffer: &[u8]) {
     let asked = Pile {
         refusal: dice.below(20),
         row: dice.below(70),
         field: dice.below(7),
+        length: dice.one_of(&[0, 8, 9, 10, 255]),
         ..*pile
     };
     let (answer, packed) = meter.pack_pile(&asked, buffer);
@@ -112,13 +139,14 @@ fn pack_and_read(meter: &mut Meter, dice: &mut Dice, pile: &Pile, buffer: &[u8])
                 refusal: 0,
                 row: 0,
                 field: 0,
+                length: buffer.len() as u8,
                 ..asked
             };
         meter.count(same, || format!("  packed {asked:?}, read {back:?}"));
     }
 }
 
-/// A pile's every field lowest, highest and one off, alone and in pairs.
+/// A pile's every field lowest, highest and one off, alone and in pairs; and with grades.
 fn piles_around() -> Vec<Pile> {
     let circle = Pile {
         section: 1,
@@ -150,7 +178,16 @@ fn piles_around() -> Vec<Pile> {
         }));
     }
     piles.extend(piles_mixed(circle));
+    piles.extend(with_each(&[circle, rectangle], &GRADES, graded));
+    let mixed = with_each(&piles_mixed(circle), &[0, 1, i16::MIN], graded);
+    piles.extend(mixed);
     piles
+}
+
+/// In a record of ten bytes.
+fn graded(pile: &mut Pile, grade: i16) {
+    pile.length = GRADED_PILE as u8;
+    pile.grade = grade;
 }
 
 /// All mixtures of right and wrong fields: the lowest wrong one is named.

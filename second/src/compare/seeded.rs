@@ -5,10 +5,11 @@
 use super::choose::{choose, Mode};
 use super::dice::Dice;
 use super::disturb::disturb;
+use super::grades::{disturb_grade, grade, Grades};
 use super::lending::{damage, spot, table, Lending};
 use super::makers::{good, loose, Site};
 use super::meter::{Edit, Meter};
-use second::{Answer, Row, SLICE, TABLE};
+use second::{Answer, Pile, Row, SLICE, TABLE};
 
 /// How often each refusal came.
 struct Seen([u64; 16]);
@@ -68,6 +69,7 @@ fn used(table: &[u8]) -> usize {
 pub fn calculations(meter: &mut Meter, seed: u64, cases: u64) {
     meter.group("calculations");
     let mut seen = Seen([0; 16]);
+    let mut grades = Grades::default();
     let mut fullest = 0;
     for case in 0..cases {
         if meter.enough() {
@@ -77,18 +79,20 @@ pub fn calculations(meter: &mut Meter, seed: u64, cases: u64) {
         meter.case(format!("case {case}"));
         let (_, answer, table) = meter.calculate(&lent);
         seen.add(&answer);
+        grades.add(&lent.pile, &answer);
         if answer.refusal == 0 {
             fullest = fullest.max(used(&table));
         }
     }
     if !meter.enough() {
         seen.all(meter, 0..=12);
+        grades.all(meter);
         meter.case("slices".to_string());
         meter.count(fullest == 83, || {
             "  83 slices were never reached".to_string()
         });
     }
-    meter.note(seen.text());
+    meter.note(format!("{}; {}", seen.text(), grades.text()));
 }
 
 fn lent_to_calculate(dice: &mut Dice) -> Lending {
@@ -116,6 +120,7 @@ fn lent_to_calculate(dice: &mut Dice) -> Lending {
 /// What came of the edits so far.
 struct Tally {
     seen: Seen,
+    grades: Grades,
     steps: u64,
     /// Accepted edits that kept no slice, some, all.
     kept: [u64; 3],
@@ -135,6 +140,7 @@ impl Tally {
     /// Counts a failure for what must come in a long enough comparison and never came.
     fn all(&self, meter: &mut Meter) {
         self.seen.all(meter, 0..=14);
+        self.grades.all(meter);
         meter.case("kept".to_string());
         meter.count(self.kept.iter().all(|times| *times > 0), || {
             "  none, some or all were never kept".to_string()
@@ -144,9 +150,10 @@ impl Tally {
     fn text(&self) -> String {
         let [none, some, every] = self.kept;
         format!(
-            "{} edits; kept none {none}, some {some}, all {every}; {}",
+            "{} edits; kept none {none}, some {some}, all {every}; {}; {}",
             self.steps,
-            self.seen.text()
+            self.seen.text(),
+            self.grades.text()
         )
     }
 }
@@ -155,6 +162,7 @@ pub fn edits(meter: &mut Meter, seed: u64, runs: u64) {
     meter.group("runs of edits");
     let mut tally = Tally {
         seen: Seen([0; 16]),
+        grades: Grades::default(),
         steps: 0,
         kept: [0; 3],
     };
@@ -180,7 +188,7 @@ fn run_of_edits(meter: &mut Meter, dice: &mut Dice, run: u64, tally: &mut Tally)
         if dice.once_in(5) {
             spot(dice, &mut lent.table);
         }
-        if dice.once_in(8) {
+        if dice.once_in(6) {
             move_pile(dice, &mut lent);
         }
         let (kind, k, x, row) = choose(dice, &lent.log, mode, dragged);
@@ -199,6 +207,7 @@ fn run_of_edits(meter: &mut Meter, dice: &mut Dice, run: u64, tally: &mut Tally)
         } else {
             let (passed, answer) = meter.edit(&mut lent, &edit);
             tally.keep(&answer, &lent.table);
+            tally.grades.add(&lent.pile, &answer);
             (passed, answer)
         };
         tally.steps += 1;
@@ -252,7 +261,7 @@ fn deepen(dice: &mut Dice, rows: &mut [Row]) {
     }
 }
 
-/// The pile drawn elsewhere between two edits.
+/// The pile drawn elsewhere, or graded otherwise, between two edits.
 fn move_pile(dice: &mut Dice, lent: &mut Lending) {
     if dice.once_in(6) {
         lent.pile = site(dice).pile();
@@ -263,13 +272,24 @@ fn move_pile(dice: &mut Dice, lent: &mut Lending) {
         lent.pile = good(dice).pile();
         return;
     }
-    match dice.below(4) {
+    match dice.below(7) {
         0 => pile.tip = pile.tip.wrapping_add(dice.below(5) as u16).wrapping_sub(2),
         1 => pile.head = pile.head.wrapping_add(dice.below(5) as u16).wrapping_sub(2),
         2 => pile.method = dice.between(1, 3) as u8,
-        _ => pile.tip = dice.between(2_990, 40_010) as u16,
+        3 => pile.tip = dice.between(2_990, 40_010) as u16,
+        _ => regrade(dice, &mut pile),
     }
-    lent.pile = second::pile_bytes(&pile).to_vec();
+    lent.pile = second::pile_bytes(&pile);
+}
+
+/// Another grade or length: one with which the pile is mostly accepted, or one at a limit.
+fn regrade(dice: &mut Dice, pile: &mut Pile) {
+    if dice.once_in(3) {
+        disturb_grade(dice, pile);
+    } else {
+        let head = u32::from(pile.head);
+        grade(dice, pile, head);
+    }
 }
 
 /// Edits whose kind uses no row, with a null pointer in its place.

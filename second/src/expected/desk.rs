@@ -42,6 +42,8 @@ pub struct Desk {
     log: [u8; 400],
     pile: [u8; 20],
     table: [u8; 700],
+    /// Bytes of the pile record that was put last.
+    record: u16,
     pub steps: Vec<u8>,
     pub lines: Vec<String>,
     /// How many edits got each refusal.
@@ -54,6 +56,7 @@ impl Desk {
             log: [0; 400],
             pile: [0; 20],
             table: [0; 700],
+            record: PILE as u16,
             steps: Vec::new(),
             lines: Vec::new(),
             refusals: [0; 16],
@@ -102,6 +105,12 @@ impl Desk {
 
     pub fn set_pile(&mut self, pile: Pile) {
         self.put(Piece::Pile, &pile_bytes(&pile), 0);
+        self.record = u16::from(pile.length);
+    }
+
+    /// The right lengths of log, pile record and table, with the record as it was put last.
+    pub fn lent(&self) -> [u16; 3] {
+        [LOG as u16, self.record, TABLE as u16]
     }
 
     /// The rows of the log as it stands, which must be a good one.

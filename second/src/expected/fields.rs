@@ -2,7 +2,7 @@
 
 #![forbid(unsafe_code)]
 
-use second::{Pile, Row};
+use second::{Pile, Row, GRADED_PILE, PILE};
 
 pub const fn row(thickness: u16, kind: u8, index: u8, saturation: u8) -> Row {
     Row {
@@ -30,6 +30,7 @@ pub const fn pile(section: u8, a: u16, b: u16, method: u8, head: u16, tip: u16) 
         refusal: 0,
         row: 0,
         field: 0,
+        length: PILE as u8,
         section,
         a,
         b,
@@ -37,12 +38,22 @@ pub const fn pile(section: u8, a: u16, b: u16, method: u8, head: u16, tip: u16) 
         head,
         tip,
         zero: 0,
+        grade: 0,
     }
 }
 
 /// A pile with its zero bits.
 pub const fn pile_with(pile: Pile, zero: u8) -> Pile {
     Pile { zero, ..pile }
+}
+
+/// A pile in a record of ten bytes, with its grade.
+pub const fn graded(pile: Pile, grade: i16) -> Pile {
+    Pile {
+        length: GRADED_PILE as u8,
+        grade,
+        ..pile
+    }
 }
 
 /// Case A's row.

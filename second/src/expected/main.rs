@@ -5,6 +5,7 @@
 mod desk;
 mod edges;
 mod fields;
+mod graded;
 mod held;
 mod record_cases;
 mod records;
@@ -62,9 +63,11 @@ fn edits() -> Desk {
     held::full_logs(&mut desk);
     held::full_table(&mut desk);
     for _ in 0..6 {
-        runs::mixed(&mut desk, &mut twister, 120);
+        runs::mixed(&mut desk, &mut twister, runs::any_pile, 120);
         runs::steady(&mut desk, &mut twister, 60);
     }
+    graded::edges(&mut desk);
+    graded::runs(&mut desk, &mut twister);
     desk
 }
 

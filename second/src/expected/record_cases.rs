@@ -1,12 +1,13 @@
-//! Which records are read and packed: document 01's own, every field at its ends, all counts and lengths, and drawn bytes.
+//! Which records are read and packed: document 01's own, every field at its ends, all counts and lengths, drawn bytes, and pile records
+//! with a grade.
 
 #![forbid(unsafe_code)]
 
-use super::fields::{pile, pile_with, row, row_with, CLAY, PILE_A};
+use super::fields::{graded, pile, pile_with, row, row_with, CLAY, PILE_A};
 use super::records::Cases;
 use super::twister::Twister;
 use second::cases::{self, log_of, LOG_A, SLICE_A};
-use second::{pile_bytes, Pile, Row, Slice, LOG, PILE, TABLE};
+use second::{pile_bytes, read_pile, Pile, Row, Slice, GRADED_PILE, LOG, PILE, TABLE};
 
 /// A good row.
 const GOOD: Row = row(500, 5, 110, 40);
@@ -26,6 +27,10 @@ pub fn all() -> Cases {
     piles_with_many(&mut cases);
     slices(&mut cases, &mut twister);
     drawn_rows(&mut cases, &mut twister);
+    grades(&mut cases);
+    graded_lengths(&mut cases);
+    graded_fields(&mut cases);
+    drawn_piles(&mut cases, &mut twister);
     cases
 }
 
@@ -284,4 +289,73 @@ fn drawn_rows(cases: &mut Cases, twister: &mut Twister) {
     }
     cases.read_row(&[], 0);
     cases.read_row(&bytes[..5], 0);
+}
+
+/// Ten bytes with every grade around a limit and at the ends of its bits, read and packed; and packed to eight, which only 0 can be.
+fn grades(cases: &mut Cases) {
+    for base in [PILE_A, pile(2, 800, 400, 3, 0, 65_535)] {
+        for grade in [
+            0, 1, 255, 256, 2_999, 3_000, 3_001, 32_766, 32_767, -1, -2, -256, -257, -1_000,
+            -2_999, -3_000, -3_001, -32_767, -32_768,
+        ] {
+            let pile = graded(base, grade);
+            cases.read_pile(&pile_bytes(&pile));
+            cases.pack_pile(&pile, GRADED_PILE);
+            cases.pack_pile(&pile, PILE);
+        }
+    }
+}
+
+/// All lengths around both of a pile record, with a grade and with a grade of 0.
+fn graded_lengths(cases: &mut Cases) {
+    for grade in [-1_000, 0, 1] {
+        let pile = graded(PILE_A, grade);
+        for length in 0..=12 {
+            let mut bytes = pile_bytes(&pile);
+            bytes.resize(length, 0);
+            cases.read_pile(&bytes);
+            cases.pack_pile(&pile, length);
+        }
+    }
+}
+
+/// Ten bytes with each bit of case A's the other way, read; and with bad fields, packed to ten bytes and to eight: 1 before 5.
+fn graded_fields(cases: &mut Cases) {
+    for bit in 0..80 {
+        let mut bytes = pile_bytes(&graded(PILE_A, -1_000));
+        bytes[bit / 8] ^= 0x80 >> (bit % 8);
+        cases.read_pile(&bytes);
+    }
+    for bad in [
+        pile(0, 600, 0, 1, 1, 2),
+        pile(1, 149, 0, 1, 1, 2),
+        pile(1, 600, 1, 1, 1, 2),
+        pile_with(PILE_A, 8),
+        pile(1, 600, 0, 0, 1, 2),
+        pile(1, 600, 0, 4, 1, 2),
+    ] {
+        for grade in [0, 1, -32_768] {
+            let pile = graded(bad, grade);
+            cases.pack_pile(&pile, GRADED_PILE);
+            cases.pack_pile(&pile, PILE);
+        }
+    }
+}
+
+/// Records of ten drawn bytes, most of them with good fields before the head; what can be read is packed again.
+fn drawn_piles(cases: &mut Cases, twister: &mut Twister) {
+    for _ in 0..60 {
+        let mut bytes = twister.bytes(GRADED_PILE);
+        if twister.percent(80) {
+            bytes[..3].copy_from_slice(&cases::PILE_A[..3]);
+            bytes[3] = cases::PILE_A[3] | bytes[3] & 0x0F;
+            bytes[7] &= 0xF0;
+        }
+        cases.read_pile(&bytes);
+        let fields = read_pile(&bytes);
+        if fields.refusal == 0 {
+            cases.pack_pile(&fields, GRADED_PILE);
+            cases.pack_pile(&fields, PILE);
+        }
+    }
 }

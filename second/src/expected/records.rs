@@ -5,7 +5,9 @@
 
 #![forbid(unsafe_code)]
 
-use second::{row_fields, slice_bytes, Answer, Log, Pile, Row, Slice, LOG, ROW, ROWS, SLICE};
+use second::{
+    row_fields, slice_bytes, Answer, Log, Pile, Row, Slice, GRADED_PILE, LOG, ROW, ROWS, SLICE,
+};
 
 #[derive(Default)]
 pub struct Cases {
@@ -58,7 +60,7 @@ impl Cases {
         self.case(6, length, used(&given), line);
     }
 
-    /// A pile record read: refusal and fields.
+    /// A pile record read: refusal, length and fields, the grade as the number that its 16 bits make without a sign.
     pub fn read_pile(&mut self, record: &[u8]) {
         let pile = second::read_pile(record);
         let refusal = [pile.refusal, pile.row, pile.field];
@@ -67,11 +69,17 @@ impl Cases {
         let fields = [
             narrow[0], wide[0], wide[1], narrow[1], wide[2], wide[3], narrow[2],
         ];
-        let line = format!("pile {} {}", words(&refusal), words(&fields));
+        let grade = i32::from(pile.grade).rem_euclid(1 << 16);
+        let line = format!(
+            "pile {} {} {} {grade}",
+            words(&refusal),
+            pile.length,
+            words(&fields)
+        );
         self.case(3, record.len(), record, line);
     }
 
-    /// A pile record packed into a buffer of so many bytes.
+    /// A pile record packed into a buffer of so many bytes; the grade is given where the fields are those of a record of ten bytes.
     pub fn pack_pile(&mut self, pile: &Pile, length: usize) {
         let mut given = vec![pile.section];
         given.extend(pile.a.to_be_bytes());
@@ -80,6 +88,9 @@ impl Cases {
         given.extend(pile.head.to_be_bytes());
         given.extend(pile.tip.to_be_bytes());
         given.push(pile.zero);
+        if usize::from(pile.length) == GRADED_PILE {
+            given.extend(pile.grade.to_be_bytes());
+        }
         let mut buffer = vec![165; length];
         let answer = second::pack_pile(pile, &mut buffer);
         let line = format!("packpile {}", packed(&answer, &buffer));

@@ -54,7 +54,7 @@ const TIPS: [u32; 10] = [
 ];
 
 /// A pile, most often a good one.
-fn any_pile(twister: &mut Twister) -> Pile {
+pub fn any_pile(twister: &mut Twister) -> Pile {
     let head = twister.one_of(&[0, 1, 500, 1_000, 2_500]);
     let drawn = twister.between(2_990, 40_010);
     let tip = twister.one_of(&[&TIPS[..], &[drawn]].concat()) as u16;
@@ -99,12 +99,12 @@ fn rectangle(twister: &mut Twister) -> (u16, u16) {
 }
 
 /// Edits of any kind, with piles and bytes of the table put between them.
-pub fn mixed(desk: &mut Desk, twister: &mut Twister, count: u32) {
+pub fn mixed(desk: &mut Desk, twister: &mut Twister, draw: fn(&mut Twister) -> Pile, count: u32) {
     desk.set_log(&[row(25_000, 6, 130, 95), row(20_000, 6, 120, 80)]);
-    desk.set_pile(any_pile(twister));
+    desk.set_pile(draw(twister));
     for _ in 0..count {
         if twister.percent(12) {
-            desk.set_pile(any_pile(twister));
+            desk.set_pile(draw(twister));
         }
         if twister.percent(4) {
             let byte = twister.between(0, 255) as u8;
@@ -132,7 +132,7 @@ fn mixed_edit(desk: &mut Desk, twister: &mut Twister) {
         k,
         x,
         row: &row_bytes(row),
-        ..Edit::default()
+        lent: desk.lent(),
     });
 }
 
@@ -155,15 +155,18 @@ fn split_point(twister: &mut Twister, thickness: u32) -> u32 {
     twister.one_of(&[&first[..], &drawn, &[2_000, thickness / 2]].concat())
 }
 
+/// Rows in which a tip may stand at 18,000.
+pub const GOOD_GROUND: [Row; 5] = [
+    row(2_500, 5, 125, 85),
+    row(1_500, 2, 100, 60),
+    row(6_000, 6, 130, 95),
+    row(2_000, 4, 110, 90),
+    row(20_000, 6, 128, 95),
+];
+
 /// One pile in good ground: most edits are answered, and much of the table is kept from one to the next.
 pub fn steady(desk: &mut Desk, twister: &mut Twister, count: u32) {
-    desk.set_log(&[
-        row(2_500, 5, 125, 85),
-        row(1_500, 2, 100, 60),
-        row(6_000, 6, 130, 95),
-        row(2_000, 4, 110, 90),
-        row(20_000, 6, 128, 95),
-    ]);
+    desk.set_log(&GOOD_GROUND);
     let method = twister.one_of(&[1, 2, 3]);
     let head = twister.one_of(&[0, 800]);
     desk.set_pile(pile(1, 600, 0, method, head, 18_000));
@@ -172,7 +175,7 @@ pub fn steady(desk: &mut Desk, twister: &mut Twister, count: u32) {
     }
 }
 
-fn steady_edit(desk: &mut Desk, twister: &mut Twister) {
+pub fn steady_edit(desk: &mut Desk, twister: &mut Twister) {
     let rows = desk.rows();
     let count = rows.len() as u32;
     let kind = if depth(&rows) > 28_000 {
@@ -198,6 +201,6 @@ fn steady_edit(desk: &mut Desk, twister: &mut Twister) {
         k,
         x,
         row: &row_bytes(Row { thickness, ..soil }),
-        ..Edit::default()
+        lent: desk.lent(),
     });
 }

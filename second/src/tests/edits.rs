@@ -8,7 +8,7 @@ use crate::*;
 
 struct Desk {
     log: Vec<u8>,
-    pile: [u8; PILE],
+    pile: Vec<u8>,
     table: Vec<u8>,
 }
 
@@ -123,7 +123,7 @@ fn refused_of_one_row_and_of_64() {
     assert_eq!(full.refuses(4, 1, 1, &bad), (14, 0, 0));
     assert_eq!(full.refuses(4, 1, 500, &bad), (13, 0, 0));
     assert_eq!(full.refuses(1, 64, 0, &bad), (3, 64, 2));
-    full.pile = [0; PILE];
+    full.pile = vec![0; PILE];
     assert_eq!(full.edit(3, 64, 0, &[]).refusal, 5);
     assert_eq!(full.log[0], 63);
 }

@@ -50,7 +50,7 @@ cut-part-requires c κs =
     let inside = stratum .before in
     let l = inside .before .loop .inv in
     let fits = room (l .1) (l .2) (inside .loop-test .taken) _ (stratum .stratum-from .ensures) in
-    (l .0, omega (arith, c .before .smaller .ensures), rw (doing-long (l .1) (l .2), c .before .smaller .ensures, c .before .before .larger .ensures) fits)
+    (l .0, omega (arith, l .1 .level, c .before .before .larger .ensures), omega (arith, c .before .smaller .ensures), rw (doing-long (l .1) (l .2), c .before .smaller .ensures, c .before .before .larger .ensures) fits)
 
 add-sum : tie.Need-add-sum Inv-loop μ-loop
 add-sum c =

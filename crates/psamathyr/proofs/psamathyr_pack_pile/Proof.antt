@@ -7,7 +7,7 @@ use Rattle.psamathyr.proofs.psamathyr_pack_pile.Tie as tie
 use Rattle.psamathyr.proofs.psamathyr_pack_pile.Reads as reads
 use Rattle.psamathyr.proofs.psamathyr_pack_pile.Lts as lts
 use Rattle.base_replies.proofs.refused.Reads as refused-reads
-use Rattle.record_piles.proofs.pack_pile.Reads as pack-pile-reads
+use Rattle.record_pile_bytes.proofs.pack_pile.Reads as pack-pile-reads
 
 pack-pile-requires : tie.Need-pack-pile-requires
 pack-pile-requires c κs = search needs

@@ -11,11 +11,18 @@ returns c = rw (← (c .before .row-limit .ensures .0), eq-eqb _ _ (c .if1 .take
 
 returns-2 : tie.Need-returns-2
 unfolding limitOf
-returns-2 c = rw (← (c .before .before .row-limit .ensures .0), ne-eqb _ _ (c .before .if1 .left), ne-eqb _ _ (c .if2 .taken))
+returns-2 c =
+    let pile = c .before in
+    let log = pile .before in
+    rw (← (log .before .row-limit .ensures .0), ne-eqb _ _ (log .if1 .left), ← (pile .pile-length-wrong .ensures), c .if2 .taken)
 
 returns-3 : tie.Need-returns-3
 unfolding limitOf
-returns-3 c = rw (← (c .before .before .row-limit .ensures .0), ne-eqb _ _ (c .before .if1 .left), eq-eqb _ _ (c .if2 .left))
+returns-3 c =
+    let pile = c .before in
+    let log = pile .before in
+    rw (← (log .before .row-limit .ensures .0), ne-eqb _ _ (log .if1 .left), ← (pile .pile-length-wrong .ensures), c .if2 .left)
 
 pub lengths-wrong-spec : {M : Type 1} → statement M
-lengths-wrong-spec = tie.close (tie.spec (λ c κs. search needs) returns returns-2 (λ c. search needs) (λ c. search needs) returns-3)
+lengths-wrong-spec =
+    tie.close (tie.spec (λ c κs. search needs) returns (λ c κs. search needs) returns-2 (λ c. search needs) (λ c. search needs) returns-3)

@@ -1,12 +1,11 @@
--- Seven fields put one after the other fill a word, and make the number of the pile record.
+-- Seven fields put one after the other fill a word, and make the number of the record before its grade.
 use mathlib.Core.Path.{refl}
 use native.Mathlib.Nat.{mul-one}
 use native.Mathlib.Omega.{arith}
-use Rattle.rules.specs.Packed.{pileBytes}
 use Rattle.record_bits.proofs.FieldLaws.{end, _then_, bytes-put}
 use borrow.Author.Needs.{needs}
-use Rattle.record_piles.proofs.pile_bytes.Statement.{statement}
-use Rattle.record_piles.proofs.pile_bytes.Tie as tie
+use Rattle.record_pile_bytes.proofs.plain_bytes.Statement.{statement}
+use Rattle.record_pile_bytes.proofs.plain_bytes.Tie as tie
 
 put-bits-requires-7 : tie.Need-put-bits-requires-7
 put-bits-requires-7 c κs =
@@ -16,7 +15,6 @@ put-bits-requires-7 c κs =
     omega arith
 
 returns : tie.Need-returns
-unfolding pileBytes
 returns c =
     let zero = c .before in
     let tip = zero .before .before in
@@ -29,8 +27,8 @@ returns c =
     (section .put-bits .ensures then a .put-bits2 .ensures then b .put-bits3 .ensures then method .put-bits4 .ensures then head .put-bits5 .ensures then tip .put-bits6 .ensures then zero .put-bits7 .ensures then end)
     refl (mul-one _)
 
-pub pile-bytes-spec : {M : Type 1} → statement M
-pile-bytes-spec =
+pub plain-bytes-spec : {M : Type 1} → statement M
+plain-bytes-spec =
     tie.close (tie.spec (λ c. search needs) (λ c κs. search needs) (λ c. search needs) (λ c κs. search needs) (λ c. search needs)
     (λ c κs. search needs) (λ c. search needs) (λ c κs. search needs) (λ c. search needs) (λ c κs. search needs)
     (λ c. search needs) (λ c κs. search needs) (λ c. search needs) put-bits-requires-7 (λ c κs. search needs) returns)

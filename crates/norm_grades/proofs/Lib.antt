@@ -1,0 +1,2 @@
+-- Laws of a site's grade.
+pub mod ShiftLaws

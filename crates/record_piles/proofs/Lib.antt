@@ -1,2 +1,0 @@
--- The round trips of a pile record.
-pub mod RoundTrip
