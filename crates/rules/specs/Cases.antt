@@ -1,7 +1,6 @@
 -- Cases A to L of document 01, "The sheet program and known numbers", two that its traps ask for, a deep pile, and cases of requests of 02:
--- what is right, and what the
--- definitions give. Each case has its whole reply: number, row, field, kept and all five numbers. Five numbers that 01 does not print are from
--- the second program (second/), which works in exact fractions.
+-- what is right, and what the definitions give. Each case has its whole reply: number, row, field, kept and all five numbers. Five numbers that
+-- the papers do not print are from the second program (second/), which works in exact fractions.
 use mathlib.Core.List.{List, [], _∷_, _++_, map}
 use Prim.Native.Nat.{ℕ, _*_, _-_, _^_}
 use lib.Dec.{eqb}

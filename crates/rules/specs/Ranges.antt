@@ -1,5 +1,5 @@
--- The ranges of fields as documents 01 and 02 give them, of a row, a log, a pile record and slices, and a pile that stands: facts on numbers, where
--- Checks has the tests.
+-- The ranges of fields as documents 01 and 02 give them, of a row, a log, a pile record and slices, and a pile that stands: facts on numbers,
+-- where Checks has the tests.
 use mathlib.Core.Path.{_≡_}
 use mathlib.Core.Bool.{false}
 use mathlib.Core.Logic.{_⊎_}

@@ -1,5 +1,5 @@
--- Worked edits: each of the four kinds accepted, one on a graded site, refusals 13, 14, 3 and 4 once each, and an accepted edit that holds a refusal of the pile. Every
--- reply, log and table is from the second program (second/).
+-- Worked edits: each of the four kinds accepted, one on a graded site, refusals 13, 14, 3 and 4 once each, and an accepted edit that holds a
+-- refusal of the pile. Every reply, log and table is from the second program (second/).
 use mathlib.Core.List.{List, [], _∷_, map}
 use Prim.Native.Nat.{ℕ}
 use lib.ListN.{replicate}
