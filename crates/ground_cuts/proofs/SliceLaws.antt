@@ -21,7 +21,7 @@ use Rattle.rules.proofs.Basics.{split}
 use Rattle.norm_columns.specs.declared.Column.{Column}
 use Rattle.norm_columns.specs.Across.{Across}
 use Rattle.norm_grades.specs.declared.Shift.{Shift}
-use Rattle.norm_friction.specs.Standings.{columnSpot}
+use Rattle.norm_friction.specs.Columns.{columnSpot}
 use Rattle.norm_friction.proofs.Reading.{soil-column}
 use Rattle.record_slice_table.specs.Table.{putAt, putAll}
 use Rattle.ground_cuts.specs.Cuts.{slicesIn, thickHere, weightOf, sliceBy, Shifted, Read}

@@ -14,7 +14,7 @@ use Rattle.rules.specs.Tables.{frictionAt}
 use Rattle.rules.specs.Numbers.{sliceEach}
 use Rattle.norm_columns.specs.declared.Column.{Column}
 use Rattle.norm_grades.specs.declared.Shift.{Shift}
-use Rattle.norm_friction.specs.Standings.{columnSpot}
+use Rattle.norm_friction.specs.Columns.{columnSpot}
 
 -- the slices from depth a to b, where all of it is soil s
 abbrev pub slicesIn : Pile → Soil → ℕ → ℕ → List Slice

@@ -10,9 +10,9 @@ ghost use Rattle.rules.specs.Widths.{Fits};
 ghost use Rattle.rules.specs.Records.{sliceWidths, sliceFields, sliceSize};
 ghost use Rattle.rules.specs.Bounds.{factorBound, weightBound};
 ghost use Rattle.rules.specs.Grades.{lowering};
+ghost use Rattle.rules.specs.Tables.{frictionRows};
 ghost use Rattle.rules.specs.Numbers.{frictionSum};
-ghost use Rattle.norm_friction_table.specs.Printed.{Lent};
-ghost use Rattle.norm_friction.specs.Standings.{FrictionColumn};
+ghost use Rattle.norm_friction.specs.Columns.{FrictionColumn};
 ghost use Rattle.record_slice_table.specs.Table.{putAll};
 ghost use Rattle.ground_cuts.specs.Cuts.{slicesIn, weightOf, Shifted, Read};
 use rules::Pile;
@@ -28,21 +28,20 @@ pub struct Cut {
 
 // The slice that begins at depth at, read in this column: at most 2,000 mm, and no further than the end.
 fn next_slice(
-    kpa: &[[u8; 10]; 13],
-    metres: &[[u8; 2]; 36],
+    kpa: &[[u8; 9]; 13],
     column: Column,
     factor: u8,
     shift: Shift,
     at: u64,
     end: u64,
 ) -> Slice
-    requires { ⌜ Lent (now kpa) (now metres) × FrictionColumn column × (factor ≤ factorBound) × Shifted shift at × (at < end) × (end < 2 ^ 16) ⌝ }
+    requires { ⌜ (now kpa ≡ frictionRows) × FrictionColumn column × (factor ≤ factorBound) × Shifted shift at × (at < end) × (end < 2 ^ 16) ⌝ }
     ensures { λ r. ⌜ Read column factor shift at end r ⌝ }
 {
     let thickness = smaller(THICKEST_SLICE, end - at);
     // Friction is read at the mid-depth, in half millimetres, from the top as the site's grade moves it.
     let top = at + shift.raising - shift.lowering;
-    let friction = norm_friction::friction(kpa, metres, column, top + top + thickness);
+    let friction = norm_friction::friction(kpa, column, top + top + thickness);
     Slice {
         top: at as u16,
         thickness: thickness as u16,
@@ -60,10 +59,9 @@ fn weigh(c: Slice) -> u64
 }
 
 // What lies from one depth to another in a stratum of this soil, cut from its top, slice after slice put into the table from a place on.
-// Column and factor are the soil's alone, the shift is the site's. Table 7.3 and its index are lent.
+// Column and factor are the soil's alone, the shift is the site's. Table 7.3 is lent.
 pub fn cut_part(
-    kpa: &[[u8; 10]; 13],
-    metres: &[[u8; 2]; 36],
+    kpa: &[[u8; 9]; 13],
     table: &mut [u8],
     place: usize,
     pile: Pile,
@@ -71,7 +69,7 @@ pub fn cut_part(
     from: u64,
     end: u64,
 ) -> Cut
-    requires { ⌜ Lent (now kpa) (now metres) × (lowering (pile .grade) ≤ from) × (end < 2 ^ 16) × ((place + length (slicesIn pile soil from end)) * sliceSize ≤ length (now table)) ⌝ }
+    requires { ⌜ (now kpa ≡ frictionRows) × (lowering (pile .grade) ≤ from) × (end < 2 ^ 16) × ((place + length (slicesIn pile soil from end)) * sliceSize ≤ length (now table)) ⌝ }
     ensures { λ r. ⌜ (r ≡ record { used = place + length (slicesIn pile soil from end); sum = frictionSum (slicesIn pile soil from end) }) × (r .sum ≤ weightBound * (end - from)) ⌝ }
     ensures { λ _. ⌜ now (table .exit) ≡ putAll (now (table .entry)) place (slicesIn pile soil from end) ⌝ }
 {
@@ -82,7 +80,7 @@ pub fn cut_part(
     let mut sum: u64 = 0;
     let mut at = from;
     while at < end {
-        let c = next_slice(kpa, metres, column, factor, shift, at, end);
+        let c = next_slice(kpa, column, factor, shift, at, end);
         put_slice(table, used, c);
         sum += weigh(c);
         used += 1;

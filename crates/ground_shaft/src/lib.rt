@@ -11,8 +11,8 @@ ghost use mathlib.Core.Path.{_≡_};
 ghost use Prim.Native.Nat.{_≤_};
 ghost use lib.ListN.{length};
 ghost use Rattle.rules.specs.Bounds.{sumBound};
+ghost use Rattle.rules.specs.Tables.{frictionRows};
 ghost use Rattle.rules.specs.Packed.{rowsOf, tableBytes};
-ghost use Rattle.norm_friction_table.specs.Printed.{Lent};
 ghost use Rattle.ground_shaft.specs.Shafts.{Ready, cutOf, shaftOf};
 use rules::Pile;
 use rules::ROW_SIZE;
@@ -26,15 +26,9 @@ pub struct Shaft {
     pub top: u64,
 }
 
-// The cut along the rows of the log, with table 7.3 and its index lent. A table has places for every shaft, so nothing counts them.
-fn cut_along(
-    kpa: &[[u8; 10]; 13],
-    metres: &[[u8; 2]; 36],
-    log: &[u8],
-    pile: Pile,
-    table: &mut [u8],
-) -> Shaft
-    requires { ⌜ Lent (now kpa) (now metres) × Ready (now log) pile (length (now table)) ⌝ }
+// The cut along the rows of the log, with table 7.3 lent. A table has places for every shaft, so nothing counts them.
+fn cut_along(kpa: &[[u8; 9]; 13], log: &[u8], pile: Pile, table: &mut [u8]) -> Shaft
+    requires { ⌜ (now kpa ≡ frictionRows) × Ready (now log) pile (length (now table)) ⌝ }
     ensures { λ r. ⌜ (r ≡ shaftOf (rowsOf (now (log .entry))) pile) × (r .sum ≤ sumBound) ⌝ }
     ensures { λ _. ⌜ now (table .exit) ≡ tableBytes (length (now (table .entry))) (cutOf (rowsOf (now (log .entry))) pile) ⌝ }
 {
@@ -57,7 +51,7 @@ fn cut_along(
         bottom = stratum.bottom;
         let from = larger(head, top);
         let end = smaller(tip, bottom);
-        let part = cut_part(kpa, metres, table, used, pile, stratum.soil, from, end);
+        let part = cut_part(kpa, table, used, pile, stratum.soil, from, end);
         used = part.used;
         sum += part.sum;
     }
@@ -76,7 +70,6 @@ pub fn cut_shaft(log: &[u8], pile: Pile, table: &mut [u8]) -> Shaft
     ensures { λ r. ⌜ (r ≡ shaftOf (rowsOf (now (log .entry))) pile) × (r .sum ≤ sumBound) ⌝ }
     ensures { λ _. ⌜ now (table .exit) ≡ tableBytes (length (now (table .entry))) (cutOf (rowsOf (now (log .entry))) pile) ⌝ }
 {
-    let kpa = norm_friction_table::rows();
-    let metres = norm_friction_table::metres();
-    cut_along(&kpa, &metres, log, pile, table)
+    let kpa = norm_friction::rows();
+    cut_along(&kpa, log, pile, table)
 }

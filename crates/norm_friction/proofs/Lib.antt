@@ -1,3 +1,2 @@
 -- Laws of table 7.3, which the proofs of the functions cite.
-pub mod Standings
 pub mod Reading

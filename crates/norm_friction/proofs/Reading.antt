@@ -1,9 +1,10 @@
 -- Friction by 20,000ths of the way down and tenths across is that of the definition.
 use mathlib.Core.Path.{_≡_, refl, sym, _∙_, ap}
 use mathlib.Core.List.{List, []}
-use Prim.Native.Nat.{ℕ, _+_, _*_, _-_, _≤_}
+use Prim.Native.Nat.{ℕ, _+_, _*_, _-_, _<_, _≤_}
 use native.Mathlib.Nat.{add-mul, mul-comm, mul-sub, mul-right-comm, eq-of-mul-eq-mul-right}
 use native.Mathlib.Omega.{arith}
+use lib.Dec.{leb, leb→le}
 use lib.ListN.{getD}
 use Rattle.rules.specs.Bounds.{frictionBound}
 use Rattle.rules.specs.Tables.{frictionDepths, frictionRows, frictionCell, frictionWeighed, frictionAt, spotOf}
@@ -14,12 +15,16 @@ use Rattle.rules.proofs.TableLaws.{column-whole}
 use Rattle.norm_columns.specs.declared.Column.{Column}
 use Rattle.norm_columns.specs.Across.{Across}
 use Rattle.norm_spots.specs.Standing.{InTable}
-use Rattle.norm_spots.proofs.Search.{in-table}
+use Rattle.norm_spots.proofs.Rows.{grid, in-table}
+use Rattle.norm_friction_rows.specs.declared.Standing.{Standing}
+use Rattle.norm_friction_rows.specs.Standings.{spotAt, Stands}
+use Rattle.norm_friction_rows.proofs.Steps.{friction-deepens}
 use Rattle.norm_spots.proofs.Weights.{weighed-le, weighed-is, shared}
-use Rattle.norm_friction.specs.declared.Standing.{Standing}
-use Rattle.norm_friction_table.specs.Printed.{headed}
-use Rattle.norm_friction.specs.Standings.{spotAt, FrictionColumn, columnSpot, Stands}
-use Rattle.norm_friction.proofs.Standings.{friction-deepens, cells, cell-is}
+use Rattle.norm_friction.specs.Columns.{FrictionColumn, columnSpot}
+
+-- no cell is over 100 kPa
+cells : (i j : ℕ) → i < 13 → j < 9 → frictionCell i j ≤ 100
+cells i j h l = leb→le _ _ (grid 13 9 (λ k m. leb (frictionCell k m) 100) tt i j h l)
 
 -- part of n, down of span: the same share
 shares : (n part down span u l : ℕ) → part * span ≡ down * n
@@ -35,13 +40,7 @@ shares n part down span u l e =
 
 -- a row's cells in a column and the next, weighed across
 abbrev along : List (List ℕ) → ℕ → Column → ℕ
-along rows i c = (10 - c .across) * getD (getD rows i []) (c .number + 1) 0 + c .across * getD (getD rows i []) (c .number + 2) 0
-
-along-is : (rows : List (List ℕ)) (i : ℕ) (c : Column) → rows ≡ headed frictionDepths frictionRows → i ≤ 12
-    → along rows i c ≡ (10 - c .across) * frictionCell i (c .number) + c .across * frictionCell i (c .number + 1)
-along-is rows i c e h =
-    let n : c .number + 2 ≡ c .number + 1 + 1 = omega arith in
-    rw (n, cell-is rows i (c .number) e h, cell-is rows i (c .number + 1) e h)
+along rows i c = (10 - c .across) * getD (getD rows i []) (c .number) 0 + c .across * getD (getD rows i []) (c .number + 1) 0
 
 -- a reading in a column at a mid-depth stands in the table
 pub in-column : (c : Column) (mid : ℕ) → FrictionColumn c → InTable 11 7 (columnSpot c mid)
@@ -50,15 +49,13 @@ in-column c mid h =
     record { row = t .row; column = h .last; weights = record { down = t .weights .down; some = t .weights .some; span = t .weights .span; across = h .tenths } }
 
 pub friction-is : (mid : ℕ) (rows : List (List ℕ)) (st : Standing) (c : Column) (upper lower : ℕ)
-    → rows ≡ headed frictionDepths frictionRows → Stands mid st
+    → rows ≡ frictionRows → Stands mid st
     → upper ≡ along rows (st .row) c → lower ≡ along rows (st .row + 1) c
     → (20000 - st .part) * upper + st .part * lower ≡ frictionAt (columnSpot c mid)
 friction-is mid rows st c upper lower r t e f =
     let p : Spot = columnSpot c mid in
-    let u : upper ≡ (10 - p .across) * frictionCell (p .row) (p .column) + p .across * frictionCell (p .row) (p .column + 1) =
-    e ∙ along-is rows (st .row) c r (omega arith) ∙ (rw (t .row)) in
-    let l : lower ≡ (10 - p .across) * frictionCell (p .row + 1) (p .column) + p .across * frictionCell (p .row + 1) (p .column + 1) =
-    f ∙ along-is rows (st .row + 1) c r (omega arith) ∙ (rw (t .row)) in
+    let u : upper ≡ along frictionRows (p .row) c = e ∙ (rw (r, t .row)) in
+    let l : lower ≡ along frictionRows (p .row + 1) c = f ∙ (rw (r, t .row)) in
     eq-of-mul-eq-mul-right (p .span) (in-table frictionDepths 2000 11 friction-deepens 7 mid 0 .weights .some) _ _
     (shares 20000 (st .part) (p .down) (p .span) upper lower (t .part)
     ∙ ap (λ (x : ℕ). x * 20000) (weighed-is p _ _ _ _ upper lower u l) ∙ sym (column-whole mid p refl))

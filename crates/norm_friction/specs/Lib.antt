@@ -1,2 +1,2 @@
--- Where a reading of table 7.3 stands.
-pub mod Standings
+-- A reading in a column of table 7.3.
+pub mod Columns

@@ -1,4 +1,5 @@
-// Friction by soil and mid-depth, read from lent table 7.3 as the pile norm says: the column by the soil, the rows by the depth.
+// Table 7.3, read as the pile norm says: friction by soil and mid-depth, the column by the soil, the rows by the depth. A function that
+// names a constant array makes all of it anew: whoever reads often asks for the rows once, and lends them.
 use base_order::wide;
 use norm_columns::Column;
 use norm_columns::mean;
@@ -8,10 +9,32 @@ ghost use Prim.Native.Nat.{_+_, _*_, _-_, _<_, _≤_};
 ghost use lib.ListN.{getD};
 ghost use Rattle.rules.specs.Bounds.{cellBound, frictionBound};
 ghost use Rattle.rules.specs.Numbers as numbers;
-ghost use Rattle.norm_friction_table.specs.Printed.{Lent};
-ghost use Rattle.rules.specs.Tables.{frictionAt};
+ghost use Rattle.rules.specs.Tables.{frictionRows, frictionAt};
 ghost use Rattle.norm_columns.specs.Across.{Across};
-ghost use Rattle.norm_friction.specs.Standings.{Stands, FrictionColumn, columnSpot};
+ghost use Rattle.norm_friction.specs.Columns.{FrictionColumn, columnSpot};
+
+// A row for each depth: kPa in columns 0.2 to 1.0.
+const ROWS: [[u8; 9]; 13] = [
+    [35, 23, 15, 12, 8, 4, 4, 3, 2],
+    [42, 30, 21, 17, 12, 7, 5, 4, 4],
+    [48, 35, 25, 20, 14, 8, 7, 6, 5],
+    [53, 38, 27, 22, 16, 9, 8, 7, 5],
+    [56, 40, 29, 24, 17, 10, 8, 7, 6],
+    [58, 42, 31, 25, 18, 10, 8, 7, 6],
+    [62, 44, 33, 26, 19, 10, 8, 7, 6],
+    [65, 46, 34, 27, 19, 10, 8, 7, 6],
+    [72, 51, 38, 28, 20, 11, 8, 7, 6],
+    [79, 56, 41, 30, 20, 12, 8, 7, 6],
+    [86, 61, 44, 32, 20, 12, 8, 7, 6],
+    [93, 66, 47, 34, 21, 12, 9, 8, 7],
+    [100, 70, 50, 36, 22, 13, 9, 8, 7],
+];
+
+pub fn rows() -> [[u8; 9]; 13]
+    ensures { λ r. ⌜ r ≡ frictionRows ⌝ }
+{
+    ROWS
+}
 
 // Hundredths right of column 0.2.
 fn hundredths(soil: Soil) -> u64
@@ -26,49 +49,12 @@ fn hundredths(soil: Soil) -> u64
     }
 }
 
-// The row above a mid-depth, and 20,000ths of the way to the next row.
-struct Standing {
-    row: usize,
-    part: u64,
-}
-
-// Between 1 m and 35 m, in half millimetres.
-fn stand_between(rows: &[[u8; 10]; 13], metres: &[[u8; 2]; 36], mid: u64) -> Standing
-    requires { ⌜ Lent (now rows) (now metres) × (2000 ≤ mid) × (mid < 70000) ⌝ }
-    ensures { λ r. ⌜ Stands mid r ⌝ }
-{
-    let metre = (mid / 2000) as usize;
-    let row = wide(metres[metre][0]) as usize;
-    let above = wide(rows[row][0]) * 2000;
-    Standing {
-        row: row,
-        part: (mid - above) * wide(metres[metre][1]),
-    }
-}
-
-// "above 1 m depth the 1 m row, below 35 m the 35 m row". Told apart by branches: a reading in between then waits for neither test.
-fn stand(rows: &[[u8; 10]; 13], metres: &[[u8; 2]; 36], mid: u64) -> Standing
-    requires { ⌜ Lent (now rows) (now metres) ⌝ }
-    ensures { λ r. ⌜ Stands mid r ⌝ }
-{
-    if mid < 2000 {
-        return Standing { row: 0, part: 0 };
-    }
-    if 70000 <= mid {
-        return Standing {
-            row: 11,
-            part: 20000,
-        };
-    }
-    stand_between(rows, metres, mid)
-}
-
 // A row's cells in column j and the next, weighed by tenths across.
-fn along(row: &[u8; 10], j: usize, across: u64) -> u64
+fn along(row: &[u8; 9], j: usize, across: u64) -> u64
     requires { ⌜ (j < 8) × (across ≤ 10) ⌝ }
-    ensures { λ r. ⌜ (r ≡ (10 - across) * getD (now (row .entry)) (j + 1) 0 + across * getD (now (row .entry)) (j + 2) 0) × (r ≤ cellBound * 10) ⌝ }
+    ensures { λ r. ⌜ (r ≡ (10 - across) * getD (now (row .entry)) j 0 + across * getD (now (row .entry)) (j + 1) 0) × (r ≤ cellBound * 10) ⌝ }
 {
-    mean(10, across, wide(row[j + 1]), wide(row[j + 2]))
+    mean(10, across, wide(row[j]), wide(row[j + 1]))
 }
 
 // The column that friction is read from in a soil. No depth changes it.
@@ -79,11 +65,11 @@ pub fn column_of(soil: Soil) -> Column
 }
 
 // In 1/200 Pa, in a column and at a mid-depth in half millimetres.
-pub fn friction(rows: &[[u8; 10]; 13], metres: &[[u8; 2]; 36], column: Column, mid: u64) -> u64
-    requires { ⌜ Lent (now rows) (now metres) × FrictionColumn column ⌝ }
+pub fn friction(rows: &[[u8; 9]; 13], column: Column, mid: u64) -> u64
+    requires { ⌜ (now rows ≡ frictionRows) × FrictionColumn column ⌝ }
     ensures { λ r. ⌜ (r ≡ frictionAt (columnSpot column mid)) × (r ≤ frictionBound) ⌝ }
 {
-    let stands = stand(rows, metres, mid);
+    let stands = norm_friction_rows::friction_row(mid);
     let i = stands.row;
     let part = stands.part;
     let upper = along(&rows[i], column.number, column.across);

@@ -1,2 +1,2 @@
--- What reading a table needs and gives.
+-- Where a reading stands in a table.
 pub mod Standing

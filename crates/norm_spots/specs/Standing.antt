@@ -1,8 +1,8 @@
--- What a reading needs of a table and what it gives.
+-- Where a reading stands in a table of the pile norm.
 use mathlib.Core.Path.{_≡_}
 use mathlib.Core.List.{List}
 use Prim.Native.Nat.{ℕ, _+_, _*_, _-_, _<_, _≤_, min, max}
-use lib.ListN.{getD, length}
+use lib.ListN.{getD}
 use Rattle.rules.specs.declared.Spot.{Spot}
 
 -- no two rows of either table are further apart: 10 m in millimetres, 5 m in half millimetres
@@ -11,12 +11,10 @@ spanBound = 10000
 
 -- m + 2 depths, each deeper than the one before, in parts of which a metre has unit
 pub record Deepens (ds : List ℕ) (unit m : ℕ) : Type 0 where
-  pub count : length ds ≡ m + 2
   pub step : (i : ℕ) → i ≤ m → getD ds i 0 < getD ds (i + 1) 0
   pub parts : (i : ℕ) → i ≤ m → (getD ds (i + 1) 0 - getD ds i 0) * unit ≤ spanBound
   pub whole : getD ds 0 0 ≤ getD ds (m + 1) 0
   pub some : 0 < unit
-  pub most : unit ≤ 2000
 
 -- depth r, at which the table is read for depth d
 pub record Clamped (ds : List ℕ) (unit m d r : ℕ) : Type 0 where

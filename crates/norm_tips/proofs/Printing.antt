@@ -1,23 +1,17 @@
--- What the printed table 7.8 has, each by one computed test: depths that deepen, cells within bounds, and the stored rows.
+-- What the printed table 7.8 has, each by one computed test: cells within bounds, and the stored rows.
 use mathlib.Core.Path.{_≡_, refl, ap}
 use mathlib.Core.Bool.{Bool, true, false}
 use mathlib.Core.List.{List, []}
 use Prim.Native.Nat.{ℕ, _<_, _≤_}
-use native.Mathlib.Omega.{arith}
 use lib.Dec.{T, eqb, leb, leb→le, eqb→eq}
 use lib.ListN.{getD}
 use Rattle.rules.specs.declared.Cell.{Cell}
 use Rattle.rules.specs.declared.Cell.the-variants.{Dash, Kpa}
 use Rattle.rules.specs.Bounds.{cellBound}
-use Rattle.rules.specs.Tables.{tipDepths, tipCell, kpaOf}
+use Rattle.rules.specs.Tables.{tipCell, kpaOf}
 use Rattle.rules.proofs.TableLaws.{every}
-use Rattle.norm_spots.specs.Standing.{Deepens}
-use Rattle.norm_spots.proofs.Search.{grid, deepens}
+use Rattle.norm_spots.proofs.Rows.{grid}
 use Rattle.norm_tips.specs.Cells.{cellOf, Printed}
-
--- by millimetres
-pub tip-deepens : Deepens tipDepths 1000 8
-tip-deepens = deepens tipDepths 1000 8 refl tt tt (omega arith) (omega arith) (omega arith)
 
 pub cells : (i j : ℕ) → i < 10 → j < 7 → kpaOf (tipCell i j) ≤ cellBound
 cells i j h l = leb→le _ _ (grid 10 7 (λ k m. leb (kpaOf (tipCell k m)) cellBound) tt i j h l)

@@ -11,9 +11,6 @@ use rules::Cell;
 use rules::Spot;
 use rules::TipRead;
 
-// Depths in metres.
-const DEPTHS: [u8; 10] = [3, 5, 7, 10, 12, 15, 18, 20, 30, 40];
-
 // The mark of a dash, which is no kPa.
 const DASH: u16 = 65535;
 
@@ -123,6 +120,6 @@ fn tip_at(rows: &[[u16; 7]; 10], p: Spot) -> TipRead
 pub fn tip_resistance(depth: u64, index: u8) -> TipRead
     ensures { λ r. ⌜ (r ≡ tipRead depth index) × (numbers.pascals r ≤ resistanceBound) ⌝ }
 {
-    let p = norm_spots::spot(&DEPTHS, 1000, 8, 5, depth, norm_columns::past(100, index));
+    let p = norm_tip_rows::tip_spot(depth, norm_columns::past(100, index));
     tip_at(&ROWS, p)
 }

@@ -1,6 +1,5 @@
 -- Every public contract settles its reply.
 pub mod Settled
-pub mod IndexLaws
 pub mod Base
 pub mod Norm
 pub mod Record

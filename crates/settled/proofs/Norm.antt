@@ -1,11 +1,17 @@
 -- That each contract of the layer norm settles its reply.
-use mathlib.Core.Path.{_≡_}
+use mathlib.Core.Path.{_≡_, sym, _∙_}
+use native.Mathlib.Nat.{eq-of-mul-eq-mul-right}
+use Rattle.rules.specs.Tables.{frictionDepths}
 use Rattle.norm_columns.specs.declared.Column.{Column}
-use Rattle.settled.proofs.IndexLaws.{shape, index}
+use Rattle.norm_spots.proofs.Rows.{in-table}
+use Rattle.norm_friction_rows.specs.declared.Standing.{Standing}
+use Rattle.norm_friction_rows.specs.Standings.{spotAt}
+use Rattle.norm_friction_rows.proofs.Steps.{friction-deepens}
 use Rattle.settled.proofs.Settled.{Settled}
 use Rattle.norm_columns.proofs as norm-columns
 use Rattle.norm_spots.proofs as norm-spots
-use Rattle.norm_friction_table.proofs as norm-friction-table
+use Rattle.norm_friction_rows.proofs as norm-friction-rows
+use Rattle.norm_tip_rows.proofs as norm-tip-rows
 use Rattle.norm_friction.proofs as norm-friction
 use Rattle.norm_tips.proofs as norm-tips
 use Rattle.norm_tip_reads.proofs as norm-tip-reads
@@ -24,17 +30,24 @@ column-for _ _ _ h g = column (cc) (cc)
 pub mean : Settled norm-columns.mean.Kinds.ps norm-columns.mean.Kinds.r norm-columns.mean.Reads.Pre norm-columns.mean.Reads.Learnt
 mean _ _ _ h g = cc
 
-pub spot : Settled norm-spots.spot.Kinds.ps norm-spots.spot.Kinds.r norm-spots.spot.Reads.Pre norm-spots.spot.Reads.Learnt
-spot _ _ _ h g = cc
+standing : {r s : Standing} → r .row ≡ s .row → r .part ≡ s .part → r ≡ s
+standing n a = λ i. record { row = n i; part = a i }
+
+-- two rows of the table are some way apart
+pub friction-row : Settled norm-friction-rows.friction_row.Kinds.ps norm-friction-rows.friction_row.Kinds.r norm-friction-rows.friction_row.Reads.Pre norm-friction-rows.friction_row.Reads.Learnt
+friction-row c _ _ h g =
+    let mid = c .args .0 in
+    let far = in-table frictionDepths 2000 11 friction-deepens 7 mid 0 .weights .some in
+    standing (h .row ∙ sym (g .row)) (eq-of-mul-eq-mul-right (spotAt mid .span) far _ _ (h .part ∙ sym (g .part)))
+
+pub tip-spot : Settled norm-tip-rows.tip_spot.Kinds.ps norm-tip-rows.tip_spot.Kinds.r norm-tip-rows.tip_spot.Reads.Pre norm-tip-rows.tip_spot.Reads.Learnt
+tip-spot _ _ _ h g = cc
 
 pub weigh : Settled norm-spots.weigh.Kinds.ps norm-spots.weigh.Kinds.r norm-spots.weigh.Reads.Pre norm-spots.weigh.Reads.Learnt
 weigh _ _ _ h g = cc
 
-pub rows : Settled norm-friction-table.rows.Kinds.ps norm-friction-table.rows.Kinds.r norm-friction-table.rows.Reads.Pre norm-friction-table.rows.Reads.Learnt
+pub rows : Settled norm-friction.rows.Kinds.ps norm-friction.rows.Kinds.r norm-friction.rows.Reads.Pre norm-friction.rows.Reads.Learnt
 rows _ _ _ h g = cc
-
-pub metres : Settled norm-friction-table.metres.Kinds.ps norm-friction-table.metres.Kinds.r norm-friction-table.metres.Reads.Pre norm-friction-table.metres.Reads.Learnt
-metres _ b d = index (shape _ _ (b .typed .1 .0 .1) (b .typed .1 .1)) (shape _ _ (d .typed .1 .0 .1) (d .typed .1 .1))
 
 pub column-of : Settled norm-friction.column_of.Kinds.ps norm-friction.column_of.Kinds.r norm-friction.column_of.Reads.Pre norm-friction.column_of.Reads.Learnt
 column-of _ _ _ h g = column (cc) (cc)

@@ -10,19 +10,19 @@ use Rattle.rules.specs.declared.Pile.{Pile}
 use Rattle.rules.specs.declared.Slice.{Slice}
 use Rattle.rules.specs.Records.{sliceSize}
 use Rattle.rules.specs.Bounds.{factorBound}
+use Rattle.rules.specs.Tables.{frictionRows}
 use Rattle.rules.specs.Grades.{lowering}
 use Rattle.norm_columns.specs.declared.Column.{Column}
 use Rattle.norm_grades.specs.declared.Shift.{Shift}
-use Rattle.norm_friction_table.specs.Printed.{Lent}
-use Rattle.norm_friction.specs.Standings.{FrictionColumn}
+use Rattle.norm_friction.specs.Columns.{FrictionColumn}
 use Rattle.ground_cuts.specs.Cuts.{Shifted}
 use Rattle.ground_cuts.proofs.SliceLaws.{shiftFor, left, Cutting, cutting-none, one-more, cutting-more, cutting-all, soil-left}
 use Rattle.ground_cuts.proofs.cut_part.Statement.{statement}
 use Rattle.ground_cuts.proofs.cut_part.Tie as tie
 
 -- what stays from turn to turn
-record Given (kpa metres : List (List ℕ)) (column : Column) (factor : ℕ) (shift : Shift) (size place from end : ℕ) : Type 0 where
-  lent : Lent kpa metres
+record Given (kpa : List (List ℕ)) (column : Column) (factor : ℕ) (shift : Shift) (size place from end : ℕ) : Type 0 where
+  lent : kpa ≡ frictionRows
   column-is : FrictionColumn column
   factor-most : factor ≤ factorBound
   shifted : Shifted shift from
@@ -30,11 +30,11 @@ record Given (kpa metres : List (List ℕ)) (column : Column) (factor : ℕ) (sh
   room : (place + length (left column factor shift from end)) * sliceSize ≤ size
 
 abbrev Inv-loop : tie.InvT-loop
-Inv-loop kpa metres table₀ place from end column factor shift used₀ sum₀ at₀ table used sum at =
-    Given kpa metres column factor shift (length table₀) place from end × Cutting column factor shift place from end table₀ table used sum at
+Inv-loop kpa table₀ place from end column factor shift used₀ sum₀ at₀ table used sum at =
+    Given kpa column factor shift (length table₀) place from end × Cutting column factor shift place from end table₀ table used sum at
 
 abbrev μ-loop : tie.MeasureT-loop
-μ-loop kpa metres table₀ place from end column factor shift used₀ sum₀ at₀ table used sum at = end - at
+μ-loop kpa table₀ place from end column factor shift used₀ sum₀ at₀ table used sum at = end - at
 
 -- the soil's column and factor and the site's shift are read before the loop
 abbrev start : tie.At-loop Inv-loop μ-loop → tie.Start Inv-loop μ-loop

@@ -5,20 +5,20 @@ use Prim.Native.Nat.{_+_, _*_, _-_, _≤_}
 use native.Mathlib.Omega.{arith}
 use lib.ListN.{length}
 use Rattle.rules.specs.Records.{rowSize}
+use Rattle.rules.specs.Tables.{frictionRows}
 use Rattle.rules.specs.Ground.{soilOf}
 use Rattle.rules.proofs.PassedLaws.{known}
-use Rattle.norm_friction_table.specs.Printed.{Lent}
 use Rattle.ground_shaft.specs.Shafts.{Ready}
 use Rattle.ground_shaft.proofs.CutLaws.{Doing, doing-none, doing-long, begins, room, doing-more, all, all-bytes}
 use Rattle.ground_shaft.proofs.cut_along.Statement.{statement}
 use Rattle.ground_shaft.proofs.cut_along.Tie as tie
 
 abbrev Inv-loop : tie.InvT-loop
-Inv-loop kpa metres log pile table₀ head tip used₀ sum₀ first₀ top₀ next₀ bottom₀ table used sum first top next bottom =
-    Lent kpa metres × Ready log pile (length table₀) × Doing log pile (length table₀) used sum first top next bottom table
+Inv-loop kpa log pile table₀ head tip used₀ sum₀ first₀ top₀ next₀ bottom₀ table used sum first top next bottom =
+    (kpa ≡ frictionRows) × Ready log pile (length table₀) × Doing log pile (length table₀) used sum first top next bottom table
 
 abbrev μ-loop : tie.MeasureT-loop
-μ-loop kpa metres log pile table₀ head tip used₀ sum₀ first₀ top₀ next₀ bottom₀ table used sum first top next bottom = tip + 1 - bottom
+μ-loop kpa log pile table₀ head tip used₀ sum₀ first₀ top₀ next₀ bottom₀ table used sum first top next bottom = tip + 1 - bottom
 
 -- the points that are cited often: the start, from the loop's head, and the cleared table, which keeps its length
 abbrev cleared : tie.At-loop Inv-loop μ-loop → tie.After-table Inv-loop μ-loop

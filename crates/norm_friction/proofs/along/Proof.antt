@@ -5,17 +5,14 @@ use borrow.Author.Needs.{needs}
 use Rattle.norm_friction.proofs.along.Statement.{statement}
 use Rattle.norm_friction.proofs.along.Tie as tie
 
-add-wide : tie.Need-add-wide
-add-wide c = search needs
-
 element-copy-out-wide : tie.Need-element-copy-out-wide
 element-copy-out-wide c = search needs
 
 wide-requires : tie.Need-wide-requires
 wide-requires c κs = search needs
 
-add-wide-2 : tie.Need-add-wide-2
-add-wide-2 c = search needs
+add-wide : tie.Need-add-wide
+add-wide c = search needs
 
 element-copy-out-wide-2 : tie.Need-element-copy-out-wide-2
 element-copy-out-wide-2 c = search needs
@@ -33,10 +30,9 @@ pub along-spec : {M : Type 1} → statement M
 along-spec =
     tie.close
     (tie.spec
-    add-wide
     element-copy-out-wide
     wide-requires
-    add-wide-2
+    add-wide
     element-copy-out-wide-2
     wide-requires-2
     mean-requires

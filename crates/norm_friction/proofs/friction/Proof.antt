@@ -5,8 +5,8 @@ use borrow.Author.Needs.{needs}
 use Rattle.norm_friction.proofs.friction.Statement.{statement}
 use Rattle.norm_friction.proofs.friction.Tie as tie
 
-stand-requires : tie.Need-stand-requires
-stand-requires c κs = search needs
+friction-row-requires : tie.Need-friction-row-requires
+friction-row-requires c κs = search needs
 
 mul-along : tie.Need-mul-along
 mul-along c = search needs
@@ -40,14 +40,14 @@ returns c =
     let a = o .args in
     let e =
     c .mean .ensures .0
-    ∙ friction-is (a .mid) (a .rows .now) _ (a .column) _ _ (o .pre .0 .table) (stand .stand .ensures) (upper .along .ensures .0) (c .before .along2 .ensures .0) in
+    ∙ friction-is (a .mid) (a .rows .now) _ (a .column) _ _ (o .pre .0) (stand .friction-row .ensures) (upper .along .ensures .0) (c .before .along2 .ensures .0) in
     (e, rw e (column-most _ (in-column (a .column) (a .mid) (o .pre .1))))
 
 pub friction-spec : {M : Type 1} → statement M
 friction-spec =
     tie.close
     (tie.spec
-    stand-requires
+    friction-row-requires
     mul-along
     index-1-along
     along-requires

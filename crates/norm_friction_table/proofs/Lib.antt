@@ -1,2 +1,0 @@
--- Laws of the index.
-pub mod Indexes
