@@ -14,7 +14,7 @@ use Rattle.rules.specs.declared.Soil.{Soil}
 use Rattle.rules.proofs.TableLaws.{column-whole}
 use Rattle.norm_columns.specs.declared.Column.{Column}
 use Rattle.norm_columns.specs.Across.{Across}
-use Rattle.norm_spots.specs.Standing.{InTable}
+use Rattle.norm_spots.specs.Spots.{InTable}
 use Rattle.norm_spots.proofs.Rows.{grid, in-table}
 use Rattle.norm_friction_rows.specs.declared.Standing.{Standing}
 use Rattle.norm_friction_rows.specs.Standings.{spotAt, Stands}

@@ -9,7 +9,7 @@ use lib.ListN.{getD}
 use Rattle.rules.specs.Base.{both, either}
 use Rattle.rules.specs.Tables.{frictionDepths, rowFor, spotOf}
 use Rattle.rules.proofs.TableLaws.{every, both-left, both-right}
-use Rattle.norm_spots.specs.Standing.{Deepens, InTable}
+use Rattle.norm_spots.specs.Spots.{Deepens, InTable}
 use Rattle.norm_spots.proofs.Rows.{from, deepens, by-metre, in-table}
 use Rattle.norm_friction_rows.specs.declared.Standing.{Standing}
 use Rattle.norm_friction_rows.specs.Standings.{spotAt, Stands}
@@ -60,7 +60,8 @@ stands mid above below share r l h t e f =
       whole = omega (arith, d, mul-le-mul-left share (w .weights .down), mul-comm (spotAt mid .down) share, s);
     }
 
--- A stretch of the rule, whatever numbers it has: from depth low to depth high rows stand w half millimetres apart.
+-- A stretch of the rule, whatever numbers it has: from depth low to depth high rows stand w half millimetres apart. The test is
+-- at every metre that they touch.
 pub stretch : (low high w more share mid : ℕ) (r : Standing) → low ≤ mid → mid < high → r .part ≡ mid % w * share → r .row ≡ mid / w + more - 1
     → T (every ((high + 1999) / 2000) (λ k. either (ltb k (low / 2000)) (evenly (w / 2000) more k)))
     → 2000 ≤ low → high ≤ 70000 → 2000 * (w / 2000) ≡ w → share * w ≡ 20000 → Stands mid r

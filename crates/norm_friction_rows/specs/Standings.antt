@@ -5,7 +5,7 @@ use Rattle.rules.specs.Tables.{frictionDepths, spotOf}
 use Rattle.rules.specs.declared.Spot.{Spot}
 use Rattle.norm_friction_rows.specs.declared.Standing.{Standing}
 
--- which no soil changes
+-- its spot, which no soil changes but for the column
 abbrev pub spotAt : ℕ → Spot
 spotAt mid = spotOf frictionDepths 2000 11 7 mid 0
 

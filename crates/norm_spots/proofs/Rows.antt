@@ -1,4 +1,4 @@
--- The row of a depth and the place that it gives, for any list of depths.
+-- The row of a depth and the spot that it gives, for any list of depths.
 use mathlib.Core.Path.{_≡_, refl, sym, _∙_}
 use mathlib.Core.Bool.{Bool}
 use mathlib.Core.Logic.{⊎-elim}
@@ -15,7 +15,7 @@ use Rattle.rules.proofs.Basics.{split}
 use Rattle.rules.proofs.TableLaws.{every, at, row-stops, row-goes}
 use Rattle.norm_columns.specs.declared.Column.{Column}
 use Rattle.norm_columns.specs.Across.{Across}
-use Rattle.norm_spots.specs.Standing.{spanBound, Deepens, Clamped, Between, InTable}
+use Rattle.norm_spots.specs.Spots.{spanBound, Deepens, Clamped, Between, InTable}
 
 -- a row and a column by one computed test over a whole table
 pub grid : (n m : ℕ) (f : ℕ → ℕ → Bool) → T (every n (λ i. every m (f i))) → (i j : ℕ) → i < n → j < m → T (f i j)
@@ -102,11 +102,11 @@ module _ (ds : List ℕ) (unit m : ℕ) (t : Deepens ds unit m) where
         };
       }
 
--- the place as it is worked out, step by step
-pub place-is : (ds : List ℕ) (unit m c d q depth i : ℕ) (col : Column) (above below : ℕ)
+-- the spot as it is worked out, step by step
+pub spot-is : (ds : List ℕ) (unit m c d q depth i : ℕ) (col : Column) (above below : ℕ)
     → Clamped ds unit m d depth → i ≡ rowFor ds unit m 0 depth → Across c q col → above ≡ getD ds i 0 * unit → below ≡ getD ds (i + 1) 0 * unit
     → record { row = i; column = col .number; down = depth - above; span = below - above; across = col .across }
     ≡ spotOf ds unit m c d q
 unfolding spotOf
-place-is ds unit m c d q depth i col above below k e t f g =
+spot-is ds unit m c d q depth i col above below k e t f g =
     rw (g, f, ← spread (getD ds i 0) (getD ds (i + 1) 0) unit, t .across, t .number, e, k .is)

@@ -6,9 +6,9 @@ use native.Mathlib.Omega.{arith}
 use Rattle.rules.specs.Tables.{weighed}
 use Rattle.rules.specs.declared.Spot.{Spot}
 use Rattle.norm_columns.proofs.Means.{mean}
-use Rattle.norm_spots.specs.Standing.{InTable}
+use Rattle.norm_spots.specs.Spots.{InTable}
 
--- the four cells at a place of a table whose cells are at most k
+-- the four cells at a spot of a table whose cells are at most k
 pub weighed-le : (cell : ℕ → ℕ → ℕ) (m c k : ℕ) (p : Spot) → InTable m c p → ((i j : ℕ) → i < m + 2 → j < c + 2 → cell i j ≤ k)
     → weighed p (cell (p .row) (p .column)) (cell (p .row) (p .column + 1)) (cell (p .row + 1) (p .column)) (cell (p .row + 1) (p .column + 1))
     ≤ p .span * (10 * k)

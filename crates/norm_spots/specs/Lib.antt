@@ -1,2 +1,2 @@
--- Where a reading stands in a table.
-pub mod Standing
+-- What a spot of a table needs and gives.
+pub mod Spots

@@ -5,7 +5,7 @@ ghost use mathlib.Core.Path.{_≡_};
 ghost use Prim.Native.Nat.{_*_, _≤_};
 ghost use Rattle.rules.specs.Bounds.{cellBound};
 ghost use Rattle.rules.specs.Tables.{weighed};
-ghost use Rattle.norm_spots.specs.Standing.{spanBound, Weights};
+ghost use Rattle.norm_spots.specs.Spots.{spanBound, Weights};
 
 // The four cells weighed, times span times ten.
 pub fn weigh(p: Spot, a: u64, b: u64, c: u64, d: u64) -> u64

@@ -7,37 +7,45 @@ use lib.ListN.{getD}
 use Rattle.rules.specs.Base.{either}
 use Rattle.rules.specs.Tables.{tipDepths, rowFor}
 use Rattle.rules.proofs.TableLaws.{every, at}
-use Rattle.norm_spots.specs.Standing.{Deepens}
+use Rattle.norm_spots.specs.Spots.{Deepens}
 use Rattle.norm_spots.proofs.Rows.{from, deepens}
 
 -- by millimetres
 pub tip-deepens : Deepens tipDepths 1000 8
 tip-deepens = deepens tipDepths 1000 8 tt tt (omega arith) (omega arith)
 
+-- the row of a whole metre, and the depth of a row
+abbrev row : ℕ → ℕ
+row = rowFor tipDepths 1 8 0
+
+abbrev depth : ℕ → ℕ
+depth i = getD tipDepths i 0
+
 -- Each branch of the two rules, whatever numbers it has: by a test at every metre, or every row, from a on and below b.
 module _ (a b k : ℕ) (h : a ≤ k) (l : k < b) where
-  same : (f g : ℕ → ℕ) → T (every b (λ i. either (ltb i a) (eqb (f i) (g i)))) → f k ≡ g k
+  abbrev Agree : (ℕ → ℕ) → (ℕ → ℕ) → Type 0
+  Agree f g = T (every b (λ i. either (ltb i a) (eqb (f i) (g i))))
+
+  same : (f g : ℕ → ℕ) → Agree f g → f k ≡ g k
   same f g t = eqb→eq _ _ (from a b (λ i. eqb (f i) (g i)) t k h l)
 
-  pub row-sloped : (n less by : ℕ) → T (every b (λ i. either (ltb i a) (eqb ((n * i - less) / by) (rowFor tipDepths 1 8 0 i))))
-      → (n * k - less) / by ≡ rowFor tipDepths 1 8 0 k
-  row-sloped n less by = same (λ i. (n * i - less) / by) (rowFor tipDepths 1 8 0)
+  pub row-sloped : (n less by : ℕ) → Agree (λ i. (n * i - less) / by) row → (n * k - less) / by ≡ row k
+  row-sloped n less by = same (λ i. (n * i - less) / by) row
 
-  pub row-stepped : (by : ℕ) → T (every b (λ i. either (ltb i a) (eqb (i / by) (rowFor tipDepths 1 8 0 i)))) → k / by ≡ rowFor tipDepths 1 8 0 k
-  row-stepped by = same (λ i. i / by) (rowFor tipDepths 1 8 0)
+  pub row-stepped : (by : ℕ) → Agree (λ i. i / by) row → k / by ≡ row k
+  row-stepped by = same (λ i. i / by) row
 
-  pub row-last : (most by more : ℕ) → T (every b (λ i. either (ltb i a) (eqb (min most (i / by + more)) (rowFor tipDepths 1 8 0 i))))
-      → min most (k / by + more) ≡ rowFor tipDepths 1 8 0 k
-  row-last most by more = same (λ i. min most (i / by + more)) (rowFor tipDepths 1 8 0)
+  pub row-last : (most by more : ℕ) → Agree (λ i. min most (i / by + more)) row → min most (k / by + more) ≡ row k
+  row-last most by more = same (λ i. min most (i / by + more)) row
 
-  pub depth-sloped : (n more by : ℕ) → T (every b (λ i. either (ltb i a) (eqb ((n * i + more) / by) (getD tipDepths i 0)))) → (n * k + more) / by ≡ getD tipDepths k 0
-  depth-sloped n more by = same (λ i. (n * i + more) / by) (λ i. getD tipDepths i 0)
+  pub depth-sloped : (n more by : ℕ) → Agree (λ i. (n * i + more) / by) depth → (n * k + more) / by ≡ depth k
+  depth-sloped n more by = same (λ i. (n * i + more) / by) depth
 
-  pub depth-stepped : (n : ℕ) → T (every b (λ i. either (ltb i a) (eqb (n * i) (getD tipDepths i 0)))) → n * k ≡ getD tipDepths k 0
-  depth-stepped n = same (λ i. n * i) (λ i. getD tipDepths i 0)
+  pub depth-stepped : (n : ℕ) → Agree (λ i. n * i) depth → n * k ≡ depth k
+  depth-stepped n = same (λ i. n * i) depth
 
-  pub depth-last : (n less : ℕ) → T (every b (λ i. either (ltb i a) (eqb (n * i - less) (getD tipDepths i 0)))) → n * k - less ≡ getD tipDepths k 0
-  depth-last n less = same (λ i. n * i - less) (λ i. getD tipDepths i 0)
+  pub depth-last : (n less : ℕ) → Agree (λ i. n * i - less) depth → n * k - less ≡ depth k
+  depth-last n less = same (λ i. n * i - less) depth
 
 -- no row is deeper than 40 m
 pub deepest : (i : ℕ) → i < 10 → getD tipDepths i 0 ≤ 40

@@ -6,7 +6,7 @@ ghost use mathlib.Core.Path.{_≡_};
 ghost use Prim.Native.Nat.{_<_, _≤_};
 ghost use lib.ListN.{getD};
 ghost use Rattle.rules.specs.Tables.{tipDepths, rowFor, spotOf};
-ghost use Rattle.norm_spots.specs.Standing.{InTable};
+ghost use Rattle.norm_spots.specs.Spots.{InTable};
 
 // The row of table 7.8 in which a whole metre stands, of the nine that have one below.
 fn tip_row(metre: u64) -> u64

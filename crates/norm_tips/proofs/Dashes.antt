@@ -1,4 +1,4 @@
--- What table 7.8 is read to at a place: a dash where one has a weight, else R, from the four cells there.
+-- What table 7.8 is read to at a spot: a dash where one has a weight, else R, from the four cells there.
 use mathlib.Core.Path.{_≡_, sym, _∙_}
 use mathlib.Core.Bool.{true, false}
 use Prim.Native.Nat.{ℕ, _+_, _*_, _-_, _/_, _≤_, max}
@@ -10,7 +10,7 @@ use Rattle.rules.specs.declared.Spot.{Spot}
 use Rattle.rules.specs.Bounds.{cellBound, resistanceBound}
 use Rattle.rules.specs.Tables.{tipDepths, tipCell, kpaOf, dashAt, tipAt, weighed, spotOf}
 use Rattle.rules.specs.Numbers.{pascals, tipRead}
-use Rattle.norm_spots.specs.Standing.{InTable}
+use Rattle.norm_spots.specs.Spots.{InTable}
 use Rattle.norm_spots.proofs.Weights.{weighed-le, shared}
 use Rattle.norm_tips.specs.Cells.{dashOf, tipReadAt}
 use Rattle.norm_tips.proofs.Printing.{cells}

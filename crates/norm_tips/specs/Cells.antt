@@ -29,6 +29,6 @@ dashOf p a b c d =
     (either (gap (p .down) (10 - p .across) c)
     (gap (p .down) (p .across) d)))
 
--- what the tip table is read to at a place
+-- what the tip table is read to at a spot
 unfoldable pub tipReadAt : Spot → TipRead
 tipReadAt p = pick (dashAt p) Dashed (Pascals (tipAt p))

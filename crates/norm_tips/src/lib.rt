@@ -5,7 +5,7 @@ ghost use Rattle.rules.specs.Bounds.{cellBound, resistanceBound};
 ghost use Rattle.rules.specs.Tables.{tipCell, kpaOf, gap};
 ghost use Rattle.rules.specs.Numbers.{tipRead};
 ghost use Rattle.rules.specs.Numbers as numbers;
-ghost use Rattle.norm_spots.specs.Standing.{spanBound, Weights, InTable};
+ghost use Rattle.norm_spots.specs.Spots.{spanBound, Weights, InTable};
 ghost use Rattle.norm_tips.specs.Cells.{cellOf, Printed, dashOf, tipReadAt};
 use rules::Cell;
 use rules::Spot;

@@ -1,10 +1,10 @@
--- The clamped depth, its row by whole metres, its column and the depths of the rows around it are the fields of the definition's place.
+-- The clamped depth, its row by whole metres, its column and the depths of the rows around it are the fields of the definition's spot.
 use mathlib.Core.Path.{_≡_, refl, sym, subst, _∙_, ap}
 use Prim.Native.Nat.{ℕ, _+_, _*_}
 use native.Mathlib.Omega.{arith}
 use Rattle.rules.specs.Tables.{tipDepths, rowFor}
-use Rattle.norm_spots.specs.Standing.{Between, Clamped, InTable}
-use Rattle.norm_spots.proofs.Rows.{by-metre, clamped, found, in-table, place-is}
+use Rattle.norm_spots.specs.Spots.{Between, Clamped, InTable}
+use Rattle.norm_spots.proofs.Rows.{by-metre, clamped, found, in-table, spot-is}
 use Rattle.norm_tip_rows.proofs.Rules.{tip-deepens, deepest}
 use borrow.Author.Needs.{needs}
 use Rattle.norm_tip_rows.proofs.tip_spot.Statement.{statement}
@@ -71,7 +71,7 @@ returns c =
     let found = above .before in
     let a = found .before .before .before .args in
     let e =
-    place-is tipDepths 1000 8 5 (a .depth) (a .q) _ _ _ _ _ (clamp (found .before)) (row found) (c .column-for .ensures)
+    spot-is tipDepths 1000 8 5 (a .depth) (a .q) _ _ _ _ _ (clamp (found .before)) (row found) (c .column-for .ensures)
     (ap (λ (x : ℕ). x * 1000) (above .tip-row-depth .ensures)) (ap (λ (x : ℕ). x * 1000) (below .tip-row-depth2 .ensures)) in
     (e, subst (InTable 8 5) (sym e) (in-table tipDepths 1000 8 tip-deepens 5 (a .depth) (a .q)))
 

@@ -1,4 +1,4 @@
--- The four cells are those printed at the place; where no dash has a weight, R is rounded down once, from the four weighed.
+-- The four cells are those printed at the spot; where no dash has a weight, R is rounded down once, from the four weighed.
 use mathlib.Core.Path.{sym, _∙_}
 use Rattle.norm_tips.proofs.Dashes.{reads-dash, reads-pascals}
 use borrow.Author.Needs.{needs}

@@ -1,4 +1,4 @@
--- The stored rows are those printed, by one computed test; the rest is the reading at a place.
+-- The stored rows are those printed, by one computed test; the rest is the reading at a spot.
 use Rattle.norm_tips.proofs.Printing.{printed}
 use Rattle.norm_tips.proofs.Dashes.{tip-resistance-read}
 use borrow.Author.Needs.{needs}

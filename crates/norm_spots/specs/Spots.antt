@@ -29,14 +29,14 @@ pub record Between (ds : List ℕ) (unit i n d r : ℕ) : Type 0 where
   pub low : getD ds r 0 * unit ≤ d
   pub high : d ≤ getD ds (r + 1) 0 * unit
 
--- the weights of a place are parts of a whole
+-- the weights of a spot are parts of a whole
 pub record Weights (p : Spot) : Type 0 where
   pub down : p .down ≤ p .span
   pub some : 0 < p .span
   pub span : p .span ≤ spanBound
   pub across : p .across ≤ 10
 
--- a place in a table of m + 2 rows and c + 2 columns
+-- a spot in a table of m + 2 rows and c + 2 columns
 pub record InTable (m c : ℕ) (p : Spot) : Type 0 where
   pub row : p .row ≤ m
   pub column : p .column ≤ c
