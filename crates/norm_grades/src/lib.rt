@@ -28,7 +28,7 @@ fn fill_height(grade: u16) -> u64
     0
 }
 
-// How far the depths at which the tables are read are moved, in millimetres: down by a fill, up by a cut.
+// How far the depths at which the tables are read are moved, in millimetres: raised by a fill, lowered by a cut.
 pub struct Shift {
     pub raising: u64,
     pub lowering: u64,

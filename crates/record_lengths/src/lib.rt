@@ -1,4 +1,4 @@
-// Check 1 in one room: the lengths that lent pieces may have, and the row limit that the length of a log or a slice table tells.
+// Check 1 of a log, a pile record and a slice table: the lengths that they may have, and the row limit that the length of a log or a table tells.
 use rules::GRADED_SIZE;
 use rules::LOG_SIZE;
 use rules::MORE_PLACES;

@@ -1,5 +1,6 @@
 -- The last three bytes make a number under 2 ^ 24, and that of the first two counts 2 ^ 24 times.
 use Rattle.record_words.proofs.NumberLaws.{five-are}
+use native.Mathlib.Omega.{arith}
 use borrow.Author.Needs.{needs}
 use Rattle.record_words.proofs.whole_five.Statement.{statement}
 use Rattle.record_words.proofs.whole_five.Tie as tie
@@ -7,7 +8,7 @@ use Rattle.record_words.proofs.whole_five.Tie as tie
 returns : tie.Need-returns
 returns c =
     let high = c .before .before .before .before .before .before in
-    cc (five-are (high .before .before .before .before .before .args .s .now))
+    omega (arith, five-are (high .before .before .before .before .before .args .s .now))
 
 pub whole-five-spec : {M : Type 1} → statement M
 whole-five-spec =
