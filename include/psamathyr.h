@@ -11,8 +11,7 @@
  * row place not zero; 3 a row's field out of range (row and field given); 4 log over 60,000 mm; 5 section kind, a, b or zero bits wrong
  * (field 1 to 4); 6 method wrong; 7 head not above tip, tip under 3,000 or over 40,000 mm, head above the cut level, or tip's depth as read
  * over 40,000 mm; 8 log ends less than 5,000 mm below the tip; 9 sand just below the tip; 10 seat too short; 11 tip liquidity index over
- * 0.60; 12 a dash of the tip table would be read; 13 no such edit, row or split point; 14 no place for another row; 15 more than 83 slices.
- * 0 is no refusal.
+ * 0.60; 12 a dash of the tip table would be read; 13 no such edit, row or split point; 14 no place for another row. 0 is no refusal.
  */
 #ifndef PSAMATHYR_H
 #define PSAMATHYR_H
@@ -75,12 +74,12 @@ typedef struct {
     uint8_t factor;
 } psamathyr_slice;
 
-/* Fills the table, or zeroes it (refusals 5 to 12 and 15), or leaves it (1 to 4). */
+/* Fills the table, or zeroes it (refusals 5 to 12), or leaves it (1 to 4). */
 psamathyr_answer psamathyr_calculate(const uint8_t *log, size_t log_len, const uint8_t *pile, size_t pile_len,
                                      uint8_t *table, size_t table_len);
 
 /* k names a row from 1; x is the split point in mm; row is the new row's five bytes. What a kind does not use is not looked at.
- * Refused by 1 to 4, 13 or 14 it changes nothing; else the log holds the edit and the table is filled or, under 5 to 12 and 15, zeroed. */
+ * Refused by 1 to 4, 13 or 14 it changes nothing; else the log holds the edit and the table is filled or, under 5 to 12, zeroed. */
 psamathyr_answer psamathyr_edit(uint8_t *log, size_t log_len, const uint8_t *pile, size_t pile_len,
                                 uint8_t *table, size_t table_len, uint32_t kind, uint32_t k, uint32_t x,
                                 const uint8_t *row, size_t row_len);

@@ -129,7 +129,7 @@ impl Pile {
     }
 }
 
-/// Checks 5 to 12 and 15, the slices and the numbers; a refusal is its number
+/// Checks 5 to 12, the slices and the numbers; a refusal is its number
 /// plus 256 times its field. By itself it is quicker than within its callers.
 #[inline(never)]
 fn work_out<const KEPT: bool>(
@@ -140,8 +140,8 @@ fn work_out<const KEPT: bool>(
     let pile = pile_of(pile)?;
     let below = tip_soil(ground, &pile)?;
     let (sum, kept) = match pile.deeper() {
-        0 => shaft::<KEPT>(ground, &pile, table, 0)?,
-        deeper => graded_shaft::<KEPT>(ground, &pile, table, deeper)?,
+        0 => shaft::<KEPT>(ground, &pile, table, 0),
+        deeper => graded_shaft::<KEPT>(ground, &pile, table, deeper),
     };
     let resistance = tip_resistance(pile.tip_read(), index_of(below));
     Ok(numbers(&pile, below, sum / 2_000_000, resistance, kept))
@@ -251,23 +251,21 @@ fn slice_bytes(top: u32, thickness: u32, friction: u64, factor: u64) -> [u8; 7] 
     bytes
 }
 
-/// The place of a slice, with check 15.
+/// The place of a slice; a table has one for each slice of a pile that passes the checks.
 #[inline(always)]
-fn place_of(table: &mut [u8; TABLE], slice: usize) -> Result<&mut [u8; 7], u32> {
-    match table.get_mut(7 * slice..7 * slice + 7) {
-        Some(place) => Ok(place.try_into().expect("seven bytes")),
-        None => Err(15),
-    }
+fn place_of(table: &mut [u8; TABLE], slice: usize) -> &mut [u8; 7] {
+    let place = &mut table[7 * slice..7 * slice + 7];
+    place.try_into().expect("seven bytes")
 }
 
-/// Check 15 and the slices; gives the sum of friction, thickness and factor, and how many slices were kept.
+/// The slices; gives the sum of friction, thickness and factor, and how many slices were kept.
 #[inline(always)]
 fn shaft<const KEPT: bool>(
     ground: &Ground,
     pile: &Pile,
     table: &mut [u8; TABLE],
     deeper: i32,
-) -> Result<(u64, usize), u32> {
+) -> (u64, usize) {
     let factors = &FACTORS[pile.method];
     let (mut sum, mut slices, mut kept) = (0, 0, 0);
     let (mut row, mut top) = (0, 0);
@@ -290,7 +288,7 @@ fn shaft<const KEPT: bool>(
             let friction = u64::from(friction(middle as u32, column, tenth));
             sum += friction * u64::from(thickness) * factor;
             let bytes = slice_bytes(at, thickness, friction, factor);
-            let place = place_of(table, slices)?;
+            let place = place_of(table, slices);
             if KEPT {
                 kept += usize::from(kept == slices && *place == bytes);
             }
@@ -300,7 +298,7 @@ fn shaft<const KEPT: bool>(
         }
     }
     table[7 * slices..].fill(0);
-    Ok((sum, kept))
+    (sum, kept)
 }
 
 /// The same where depths are read deeper or less deep; by itself, since few sites are graded so much.
@@ -310,7 +308,7 @@ fn graded_shaft<const KEPT: bool>(
     pile: &Pile,
     table: &mut [u8; TABLE],
     deeper: i32,
-) -> Result<(u64, usize), u32> {
+) -> (u64, usize) {
     shaft::<KEPT>(ground, pile, table, deeper)
 }
 

@@ -57,7 +57,7 @@ pub(crate) fn work_out(rows: &[Row], pile: &[u8]) -> (Answer, Vec<u8>) {
     }
 }
 
-/// Checks 5 to 12 and 15, then the numbers.
+/// Checks 5 to 12, then the numbers.
 fn numbers(rows: &[Row], pile: &Pile) -> Result<(Answer, Vec<Slice>), Refusal> {
     check_pile(pile)?;
     let ground = ground(rows, pile)?;
@@ -68,7 +68,7 @@ fn numbers(rows: &[Row], pile: &Pile) -> Result<(Answer, Vec<Slice>), Refusal> {
     let strata = strata(&ground);
     check_seat(&strata, pile)?;
     let kilopascals = tip_resistance(below, pile)?;
-    let slices = slices(&strata, pile)?;
+    let slices = slices(&strata, pile);
 
     let resistance = (kilopascals * Fraction::whole(1_000)).floor();
     let line = slices
@@ -142,21 +142,23 @@ fn tip_resistance(below: Soil, pile: &Pile) -> Result<Fraction, Refusal> {
         .map_err(|tables::Dash| Refusal::plain(12))
 }
 
-/// Check 15, then the slices of the shaft.
-fn slices(strata: &[Stratum], pile: &Pile) -> Result<Vec<Slice>, Refusal> {
+/// The slices of the shaft. No pile that passes the checks has more of them than a table has places: one that had would end the program.
+fn slices(strata: &[Stratum], pile: &Pile) -> Vec<Slice> {
     let head = usize::from(pile.head);
     let tip = usize::from(pile.tip);
     let pieces = pieces(strata, head, tip);
-    if pieces.len() > SLICES {
-        return Err(Refusal::plain(15));
-    }
+    assert!(
+        pieces.len() <= SLICES,
+        "{} slices, and a table has {SLICES} places",
+        pieces.len()
+    );
     let slices: Vec<Slice> = pieces.iter().map(|piece| slice(piece, pile)).collect();
     let length: usize = slices
         .iter()
         .map(|slice| usize::from(slice.thickness))
         .sum();
     assert_eq!(length, tip - head);
-    Ok(slices)
+    slices
 }
 
 /// The five numbers from tip resistance in Pa and line, with the soil below the tip.

@@ -67,6 +67,22 @@ fn fine_sand(thickness: u16) -> Row {
     }
 }
 
+/// As many slices as there can be: of 64 strata 19 have two each, the last of them the tip's, and 45 have one.
+pub fn fullest() -> (Vec<Row>, Pile) {
+    let soil = |place: u8, thickness| clay(thickness, 10 + place % 7, 95);
+    let mut rows: Vec<Row> = (0..18).map(|place| soil(place, 2_001)).collect();
+    rows.extend((18..63).map(|place| soil(place, 1)));
+    rows.push(clay(2_001 + 5_000, 30, 95));
+    let tip = 19 * 2_001 + 45;
+    (
+        rows,
+        Pile {
+            head: 0,
+            ..pile(tip)
+        },
+    )
+}
+
 /// Case A's pile with another tip.
 fn pile(tip: u16) -> Pile {
     Pile {

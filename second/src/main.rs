@@ -118,6 +118,7 @@ fn run(asked: &Asked) -> bool {
         known::around_the_marks(&mut meter);
         known::graded_marks(&mut meter);
         known::known_cases(&mut meter);
+        known::fullest(&mut meter);
         logs::logs(&mut meter, seed, 20_000 / part);
         records::piles(&mut meter, seed, 20_000 / part);
         records::slices(&mut meter, seed, 2_000 / part);

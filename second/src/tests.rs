@@ -147,28 +147,15 @@ fn bytes_and_slices_of_case_a() {
 
 #[test]
 fn full_table() {
-    let (log, pile) = full();
+    let (rows, pile) = cases::fullest();
     let mut table = vec![0; TABLE];
-    let answer = calculate(&log, &pile_bytes(&pile), &mut table);
+    let answer = calculate(&log_of(&rows), &pile_bytes(&pile), &mut table);
     assert_eq!(answer.refusal, 0);
     assert!(read_slice(&table, 82).thickness > 0);
     let sum: u32 = (0..83)
         .map(|place| u32::from(read_slice(&table, place).thickness))
         .sum();
     assert_eq!(sum, 38_064);
-}
-
-/// 64 strata and 83 slices.
-fn full() -> ([u8; LOG], Pile) {
-    let mut rows = Vec::new();
-    for place in 0..63_u8 {
-        let thickness = if place < 18 { 2_001 } else { 1 };
-        rows.push(row(thickness, 4 + place % 2, 110 + place % 7, 95));
-    }
-    rows.push(row(2_001 + 5_000, 6, 130, 95));
-    let tip = 18 * 2_001 + 45 + 2_001;
-    assert_eq!(tip, 38_064);
-    (log_of(&rows), circle(0, tip))
 }
 
 #[test]

@@ -8,7 +8,7 @@ use lib.ListN.{length}
 use borrow.Author.Tests.{eqb-false}
 use Rattle.rules.specs.declared.Answer.{Answer}
 use Rattle.rules.specs.Base.{refuse, refuses, when, first}
-use Rattle.rules.specs.Limits.{limitOf, rowLimit, tableSize}
+use Rattle.rules.specs.Limits.{limitOf, tableSize}
 use Rattle.rules.specs.Packed.{rowsOf, pileOf, tableBytes}
 use Rattle.rules.specs.Ground.{depthOf}
 use Rattle.rules.specs.Checks.{formless, pileLengthWrong, Passed, lengthsWrong, lentChecks}
@@ -19,7 +19,6 @@ use Rattle.rules.proofs.RefusalLaws.{either-left, either-right, right-long}
 use Rattle.record_log_checks.specs.declared.Checked.{Checked}
 use Rattle.record_log_checks.specs.Checks.{contentChecked}
 use Rattle.answer_work.proofs.WorkLaws.{on, off}
-use Rattle.answer_work.proofs.SliceLaws.{table-room}
 
 pub wrong : (log pile table : List ℕ) → lengthsWrong log pile table ≡ true → (refused (refuse 1) ≡ calculated log pile table) × (table ≡ tableAfter log pile table)
 unfolding calculated tableAfter lentChecks first when
@@ -57,9 +56,9 @@ module _ {log pile table : List ℕ} (l : Long log pile table) {r : Checked} (e 
     unfolding contentChecked
     clear = rw e at (off (r .refusal .number) z)
 
-    pub ready : Passed log × (r .depth ≡ depthOf (rowsOf log)) × (tableSize rowLimit ≤ length table)
+    pub ready : Passed log × (r .depth ≡ depthOf (rowsOf log)) × (tableSize (limitOf log) ≤ length table)
     unfolding contentChecked first when
-    ready = (rw (log-grouped log, l .formed) clear, rw (e, clear), table-room log table (l .form) (l .size))
+    ready = (rw (log-grouped log, l .formed) clear, rw (e, clear), omega (arith, l .size))
 
     pub worked : (a : Answer) (after : List ℕ) → a ≡ freshAnswer log pile → after ≡ tableBytes (length table) (heldSlicesOf (rowsOf log) (pileOf pile))
         → (a ≡ calculated log pile table) × (after ≡ tableAfter log pile table)

@@ -1,3 +1,2 @@
 -- Laws of what is worked out.
 pub mod WorkLaws
-pub mod SliceLaws

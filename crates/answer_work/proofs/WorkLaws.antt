@@ -14,17 +14,16 @@ use Rattle.rules.specs.declared.Pile.{Pile}
 use Rattle.rules.specs.declared.Slice.{Slice}
 use Rattle.rules.specs.declared.Answer.{Answer}
 use Rattle.rules.specs.declared.TipRead.{TipRead}
-use Rattle.rules.specs.Base.{pick, refuse, refuses, when, first}
-use Rattle.rules.specs.Limits.{placeLimit}
+use Rattle.rules.specs.Base.{pick, refuse, refuses, first}
 use Rattle.rules.specs.Packed.{rowsOf, pileOf, tableBytes}
 use Rattle.rules.specs.Ground.{depthOf, same, soilAt}
 use Rattle.rules.specs.Pieces.{runTop}
 use Rattle.rules.specs.Numbers.{tipOf, tipRead, pascals, resistance}
-use Rattle.rules.specs.Checks.{tooMany, groundChecks}
+use Rattle.rules.specs.Checks.{groundChecks}
 use Rattle.rules.specs.Answers.{refused, numbers, answer, heldSlices}
 use Rattle.rules.specs.Calculation.{answerOf, heldSlicesOf, freshAnswer}
 use Rattle.rules.proofs.Groups.{pileChecks, early, late, checksFrom, ground-grouped}
-use Rattle.rules.proofs.RefusalLaws.{first-left, first-right, when-false}
+use Rattle.rules.proofs.RefusalLaws.{first-left, first-right}
 use Rattle.record_slice_table.proofs.TableLaws.{filled-none}
 use Rattle.ground_shaft.specs.declared.Shaft.{Shaft}
 use Rattle.ground_shaft.specs.Shafts.{cutOf, shaftOf}
@@ -96,9 +95,9 @@ module _ (rs : List Row) (p : Pile) (size : ℕ) where
     pub past-early : r .number ≡ 0 → refuses (early (depthOf rs) p) ≡ false
     past-early z = ap refuses (sym e) ∙ off (r .number) z
 
-  -- past checks 5 to 8, by the shaft that was cut, for which there are places
-  module _ (h : refuses (early (depthOf rs) p) ≡ false) (room : length cut ≤ placeLimit) (c : Shaft) (e : c ≡ shaftOf rs p) (n : ℕ) (l : refuse n ≡ late (c .soil) (c .top) p) where
-    by-late : checks ≡ first (late below top p) (when (tooMany (length cut)) 15)
+  -- past checks 5 to 8, by the shaft that was cut
+  module _ (h : refuses (early (depthOf rs) p) ≡ false) (c : Shaft) (e : c ≡ shaftOf rs p) (n : ℕ) (l : refuse n ≡ late (c .soil) (c .top) p) where
+    by-late : checks ≡ late below top p
     unfolding checksFrom
     by-late = ground-grouped (soilAt rs) (depthOf rs) p ∙ first-right _ _ h
 
@@ -107,15 +106,14 @@ module _ (rs : List Row) (p : Pile) (size : ℕ) where
     late-is = rw e at l
 
     pub no-tip : (r : Refusal) → r ≡ refuse n → (n ≡ 0 → ⊥) → Decides r
-    no-tip r q k = decides r _ (q ∙ late-is) (ap refuses q ∙ on n k) (λ x. by-late ∙ first-left _ _ x)
+    no-tip r q k = decides r _ (q ∙ late-is) (ap refuses q ∙ on n k) (λ x. by-late)
 
-    -- past checks 9 to 12: 15 cannot come to pass
+    -- past checks 9 to 12 too
     pub done : n ≡ 0 → (t : TipRead) (r line : ℕ) (a : Answer) (bytes : List ℕ) → t ≡ tipRead (tipOf p) (c .soil .index) → r ≡ pascals t → line ≡ c .sum / 2000000
         → a ≡ numbers (c .soil) p r line → bytes ≡ tableBytes size cut → Right rs p size a (c .used) bytes
     unfolding answerOf answer heldSlicesOf heldSlices resistance shaftOf
     done z t r line a bytes read j k f b =
-        let last : checks ≡ when (tooMany (length cut)) 15 = by-late ∙ first-right _ _ (ap refuses (sym late-is) ∙ off n z) in
-        let none : refuses checks ≡ false = ap refuses (last ∙ when-false 15 _ (le-ltb placeLimit (length cut) room)) in
+        let none : refuses checks ≡ false = ap refuses (by-late ∙ sym late-is) ∙ off n z in
         ((rw (none, f, k, j, read, e), rw (none, e)), rw none b)
 
 -- of the bytes of a log and a pile record

@@ -1,5 +1,5 @@
 // What is worked out of a log past its checks and a pile record: checks 5 to 12 in order, the numbers, and the slice table, written in place.
-// 15 is not looked at: a table has places for every shaft that passes the checks before it.
+// Nothing counts the slices: a table has places for every shaft of a pile that passes checks 7 and 8.
 use answer_checks::depth_refusal;
 use answer_checks::tip_refusal;
 use answer_numbers::five_numbers;
@@ -17,7 +17,7 @@ ghost use mathlib.Core.Bool.{false};
 ghost use Prim.Native.Nat.{_≤_};
 ghost use lib.ListN.{length, replicate};
 ghost use Rattle.rules.specs.Base as base;
-ghost use Rattle.rules.specs.Limits.{rowLimit, tableSize};
+ghost use Rattle.rules.specs.Limits.{limitOf, tableSize};
 ghost use Rattle.rules.specs.Packed.{rowsOf, pileOf, tableBytes};
 ghost use Rattle.rules.specs.Ground.{depthOf};
 ghost use Rattle.rules.specs.Checks.{Passed};
@@ -49,7 +49,7 @@ fn no_work(table: &mut [u8], refusal: Refusal) -> Worked
 
 // A pile that passes checks 5 to 8. Its shaft is cut before checks 9 to 12 are looked at: the cut tells the soil below the tip and its stratum.
 fn work_pile(log: &[u8], pile: Pile, table: &mut [u8]) -> Worked
-    requires { ⌜ Passed (now log) × (base.refuses (early (depthOf (rowsOf (now log))) pile) ≡ false) × (tableSize rowLimit ≤ length (now table)) ⌝ }
+    requires { ⌜ Passed (now log) × (base.refuses (early (depthOf (rowsOf (now log))) pile) ≡ false) × (tableSize (limitOf (now log)) ≤ length (now table)) ⌝ }
     ensures { λ r. ⌜ (r .answer ≡ answerOf (rowsOf (now (log .entry))) pile) × (r .used ≡ length (heldSlicesOf (rowsOf (now (log .entry))) pile)) ⌝ }
     ensures { λ _. ⌜ now (table .exit) ≡ tableBytes (length (now (table .entry))) (heldSlicesOf (rowsOf (now (log .entry))) pile) ⌝ }
 {
@@ -68,9 +68,9 @@ fn work_pile(log: &[u8], pile: Pile, table: &mut [u8]) -> Worked
     }
 }
 
-// The answer and the table of a log past its checks, whose rows are this deep, and a pile record; the table has places for every form.
+// The answer and the table of a log past its checks, whose rows are this deep, and a pile record; the table has the places of the log's form.
 pub fn work_out(log: &[u8], depth: u64, pile: &[u8], table: &mut [u8]) -> Worked
-    requires { ⌜ Passed (now log) × (depth ≡ depthOf (rowsOf (now log))) × (tableSize rowLimit ≤ length (now table)) ⌝ }
+    requires { ⌜ Passed (now log) × (depth ≡ depthOf (rowsOf (now log))) × (tableSize (limitOf (now log)) ≤ length (now table)) ⌝ }
     ensures { λ r. ⌜ (r .answer ≡ freshAnswer (now (log .entry)) (now (pile .entry))) × (r .used ≡ length (heldSlicesOf (rowsOf (now (log .entry))) (pileOf (now (pile .entry))))) ⌝ }
     ensures { λ _. ⌜ now (table .exit) ≡ tableBytes (length (now (table .entry))) (heldSlicesOf (rowsOf (now (log .entry))) (pileOf (now (pile .entry)))) ⌝ }
 {

@@ -2,6 +2,7 @@
 use mathlib.Core.Path.{_≡_, _∙_, ap}
 use mathlib.Core.List.{List}
 use Prim.Native.Nat.{ℕ, _≤_}
+use native.Mathlib.Omega.{arith}
 use lib.ListN.{length}
 use Rattle.rules.specs.declared.Answer.{Answer}
 use Rattle.rules.specs.Limits.{rowLimit, placeLimit, limitOf, tableSize}
@@ -9,9 +10,9 @@ use Rattle.rules.specs.Packed.{rowsOf, pileOf, tableBytes}
 use Rattle.rules.specs.Checks.{Passed}
 use Rattle.rules.specs.Calculation.{heldSlicesOf, freshAnswer, freshTable}
 use Rattle.rules.specs.EditReplies.{editAnswer, usedSlices, kept, withKept}
-use Rattle.rules.proofs.FormLaws.{one-form}
+use Rattle.rules.proofs.FormLaws.{one-form, limit-most}
 use Rattle.rules.proofs.PassedLaws.{known}
-use Rattle.answer_work.proofs.SliceLaws.{few-slices}
+use Rattle.rules.proofs.RoomLaws.{log-room}
 
 -- the answer of the log as it now stands, with kept, and its table
 pub held : (log pile table : List ℕ) (a : Answer) (n m : ℕ) (new old : List ℕ) → length table ≡ tableSize (limitOf log) → a ≡ freshAnswer log pile → n ≡ usedSlices log pile
@@ -23,5 +24,5 @@ held log pile table a n m new old l p q t u h = (rw (h, p, q, t, u, l), rw (t, l
 pub room : (log table : List ℕ) → Passed log → length table ≡ tableSize (limitOf log) → length table ≡ tableSize rowLimit
 room log table p l = l ∙ ap tableSize (one-form log (known log p .form))
 
-pub few : (log pile : List ℕ) (n : ℕ) → n ≡ usedSlices log pile → n ≤ placeLimit
-few log pile n h = rw h (few-slices (rowsOf log) (pileOf pile))
+pub few : (log pile : List ℕ) (n : ℕ) → Passed log → n ≡ usedSlices log pile → n ≤ placeLimit
+few log pile n p h = omega (arith, h, log-room log pile p, limit-most log)

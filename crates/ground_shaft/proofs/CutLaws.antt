@@ -10,14 +10,13 @@ use Rattle.rules.specs.declared.Soil.{Soil}
 use Rattle.rules.specs.declared.Pile.{Pile}
 use Rattle.rules.specs.declared.Slice.{Slice}
 use Rattle.rules.specs.Records.{rowSize, sliceSize}
-use Rattle.rules.specs.Limits.{rowLimit, placeLimit}
+use Rattle.rules.specs.Limits.{limitOf, placesFor}
 use Rattle.rules.specs.Bounds.{weightBound}
 use Rattle.rules.specs.Packed.{countOf, rowAt, rowsOf, tableBytes}
 use Rattle.rules.specs.Ground.{depthOf, same, soilOf, soilAt}
 use Rattle.rules.specs.Pieces.{Piece, piecesFrom, pieces, runTop}
 use Rattle.rules.specs.Numbers.{sliceOf, sliceEach, frictionSum}
 use Rattle.rules.proofs.PassedLaws.{known}
-use Rattle.rules.proofs.FormLaws.{one-form}
 use Rattle.rules.proofs.RoomLaws.{slices-room}
 use Rattle.rules.proofs.StratumLaws.{no-pieces, stratum-cut, top-here}
 use Rattle.record_slice_table.specs.Table.{putAll}
@@ -78,10 +77,10 @@ doing-none log p size bytes e =
     }
 
 -- a shaft has no more slices than a table has places
-pub few : {log : List ℕ} {p : Pile} {size : ℕ} → Ready log p size → length (cutOf (rowsOf log) p) ≤ placeLimit
+few : {log : List ℕ} {p : Pile} {size : ℕ} → Ready log p size → length (cutOf (rowsOf log) p) ≤ placesFor (limitOf log)
 few {log} {p} a =
     let k = known log (a .passed) in
-    slices-room (rowsOf log) p rowLimit (omega (arith, k .rows, k .few, one-form log (k .form))) (omega (arith, a .deep)) (a .near)
+    slices-room (rowsOf log) p (limitOf log) (omega (arith, k .rows, k .few)) (omega (arith, a .deep)) (a .near)
 
 module _ {log : List ℕ} {p : Pile} {size : ℕ} (a : Ready log p size) {used sum first top next bottom : ℕ} {bytes : List ℕ} (g : Doing log p size used sum first top next bottom bytes) where
   pub doing-long : length bytes ≡ size
@@ -101,7 +100,7 @@ module _ {log : List ℕ} {p : Pile} {size : ℕ} (a : Ready log p size) {used s
     more : cutOf (rowsOf log) p ≡ (g .cut ++ part) ++ leftOf (rowsOf log) p (r .bottom)
     more = g .rest ∙ ap (λ (x : List Slice). g .cut ++ x) next-is ∙ sym (append-assoc (g .cut) part _)
 
-    pub places : used + length part ≤ placeLimit
+    places : used + length part ≤ placesFor (limitOf log)
     places = omega (arith, few a, ap length more, length-append (g .cut ++ part) (leftOf (rowsOf log) p (r .bottom)), length-append (g .cut) part, g .table .0)
 
     pub room : (used + length part) * sliceSize ≤ size

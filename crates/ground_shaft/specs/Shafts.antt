@@ -5,7 +5,7 @@ use lib.ListN.{length}
 use Rattle.rules.specs.declared.Row.{Row}
 use Rattle.rules.specs.declared.Pile.{Pile}
 use Rattle.rules.specs.declared.Slice.{Slice}
-use Rattle.rules.specs.Limits.{rowLimit, tableSize, tipLimit}
+use Rattle.rules.specs.Limits.{limitOf, tableSize, tipLimit}
 use Rattle.rules.specs.Grades.{cutDepth}
 use Rattle.rules.specs.Packed.{rowsOf}
 use Rattle.rules.specs.Ground.{depthOf, soilAt}
@@ -14,13 +14,13 @@ use Rattle.rules.specs.Numbers.{belowTip, shaftSlices, frictionSum}
 use Rattle.rules.specs.Checks.{Passed}
 use Rattle.ground_shaft.specs.declared.Shaft.{Shaft}
 
--- a log past its checks that goes on below the tip, a head that no cut bares, and a table of so many bytes, with places enough for every form
+-- a log past its checks that goes on below the tip, a head that no cut bares, and a table of so many bytes, which has the places of the log's form
 pub record Ready (log : List ℕ) (p : Pile) (size : ℕ) : Type 0 where
   pub passed : Passed log
   pub near : p .tip ≤ tipLimit
   pub level : cutDepth (p .grade) ≤ p .head
   pub deep : p .tip < depthOf (rowsOf log)
-  pub room : tableSize rowLimit ≤ size
+  pub room : tableSize (limitOf log) ≤ size
 
 -- the slices between head and tip
 abbrev pub cutOf : List Row → Pile → List Slice

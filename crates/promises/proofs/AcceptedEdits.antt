@@ -25,13 +25,13 @@ use Rattle.edit_reply.proofs.ReplyLaws.{allowed}
 use Rattle.promises.proofs.TwoTables.{kept-is}
 
 -- one table goes with one form: that of the log that is lent, and of the log that an accepted edit leaves
-lent-form : (log pile table : List ℕ) → LentPassed log pile table → length table ≡ tableSize (limitOf log)
+pub lent-form : (log pile table : List ℕ) → LentPassed log pile table → length table ≡ tableSize (limitOf log)
 unfolding lentChecks
 lent-form log pile table h =
     let w = lengthsWrong log pile table in
     long log pile table (when-off 0 w (first-off (when w 1) _ h .0)) .size
 
-left-form : (e : Edit) (log pile table : List ℕ) → Accepted e log pile table → length table ≡ tableSize (limitOf (editedLog e log))
+pub left-form : (e : Edit) (log pile table : List ℕ) → Accepted e log pile table → length table ≡ tableSize (limitOf (editedLog e log))
 left-form e log pile table h = let a = allowed e log pile table h in rw (a .left .limit) (a .lent .size)
 
 -- what an accepted edit replies and the table that it leaves, of the log as it then stands
@@ -57,7 +57,7 @@ module _ (e : Edit) (log pile table : List ℕ) (h : Accepted e log pile table) 
   pub kept-of-two : editReply e log pile table .kept ≡ keptOf (editTable e log pile table) table
   kept-of-two = rw (reply-is, table-is)
 
-  -- "Under 5 to 12 or 15 the table becomes all zero; the log holds the edit": zeros, with kept among them
+  -- "Under 5 to 12 .. the table becomes all zero; the log holds the edit": zeros, with kept among them
   pub pile-refused : refuses (editReply e log pile table .refusal) ≡ true
       → (editReply e log pile table ≡ refused (editReply e log pile table .refusal)) × (editTable e log pile table ≡ replicate (length table) 0) × (editLog e log pile table ≡ now)
   unfolding editReply editTable editLog editAnswer freshAnswer freshTable answerOf heldSlicesOf tableBytes slicesBytes kept
@@ -85,6 +85,14 @@ pub passes : (log pile table : List ℕ) → lengthsWrong log pile table ≡ fal
 unfolding lentChecks logChecks
 passes log pile table n p =
     first-none (when (lengthsWrong log pile table) 1) _ (ap refuses (when-false 1 _ n)) (first-off (when (formless log) 1) _ p .1)
+
+-- and only such a log
+pub lent-log : (log pile table : List ℕ) → LentPassed log pile table → Passed log
+unfolding lentChecks logChecks
+lent-log log pile table h =
+    let w = lengthsWrong log pile table in
+    let one = first-off (when w 1) _ h in
+    first-none (when (formless log) 1) _ (ap refuses (when-false 1 _ (long log pile table (when-off 0 w (one .0)) .formed))) (one .1)
 
 -- what an accepted edit was lent passes checks 1 to 4
 pub lent-passes : (e : Edit) (log pile table : List ℕ) → Accepted e log pile table → LentPassed log pile table

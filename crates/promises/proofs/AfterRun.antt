@@ -3,25 +3,18 @@ use mathlib.Core.Path.{_≡_, refl, sym, _∙_, ap}
 use mathlib.Core.Bool.{Bool, true, false, true≢false}
 use mathlib.Core.List.{List, [], _∷_, _++_}
 use Prim.Native.Nat.{ℕ}
-use native.Mathlib.Omega.{arith}
-use lib.ListN.{length}
 use borrow.Author.Tests.{eq-eqb}
 use Rattle.rules.specs.Base.{either, neg, refuses}
-use Rattle.rules.specs.Limits.{limitOf, tableSize}
-use Rattle.rules.specs.Packed.{rowsOf, pileOf}
 use Rattle.rules.specs.Edits.{editedLog}
-use Rattle.rules.specs.Checks.{formless, pileLengthWrong, lengthsWrong, editChecks, Passed, LentPassed, Accepted}
-use Rattle.rules.specs.Calculation.{heldSlicesOf, freshTable, calculated, tableAfter}
+use Rattle.rules.specs.Checks.{formless, pileLengthWrong, lengthsWrong, editChecks, LentPassed, Accepted}
+use Rattle.rules.specs.Calculation.{freshTable, calculated, tableAfter}
 use Rattle.rules.specs.EditReplies.{editReply, editLog, editTable}
 use Rattle.rules.specs.Runs.{Call, Desk, step, run, anyAccepted, Last, Afresh, AfterRun}
 use Rattle.rules.proofs.RefusalLaws.{neg-false, either-left, either-right}
-use Rattle.rules.proofs.FormLaws.{one-form}
-use Rattle.rules.proofs.PassedLaws.{known}
 use Rattle.rules.proofs.RunLaws.{refused-still, held-is}
-use Rattle.record_slice_table.proofs.TableLaws.{filled-long}
-use Rattle.answer_work.proofs.SliceLaws.{few-slices}
 use Rattle.edit_reply.proofs.ReplyLaws.{Allowed, allowed}
 use Rattle.promises.proofs.AcceptedEdits.{passes}
+use Rattle.promises.proofs.Room.{fresh-long}
 
 abbrev refusesHere : Call → Desk → Bool
 refusesHere c d = refuses (editChecks (c .edit) (d .log) (c .pile) (d .table))
@@ -50,13 +43,6 @@ run-append : (cs ts : List Call) (d : Desk) → run (cs ++ ts) d ≡ run ts (run
 unfolding run
 run-append [] ts d = refl
 run-append (c ∷ cs) ts d = run-append cs ts (step c d)
-
--- the table of a log past its checks has the length that goes with it
-fresh-long : (log pile : List ℕ) → Passed log → length (freshTable log pile) ≡ tableSize (limitOf log)
-unfolding freshTable
-fresh-long log pile p =
-    let cs = heldSlicesOf (rowsOf log) (pileOf pile) in
-    filled-long (tableSize (limitOf log)) cs _ (length cs) (omega (arith, few-slices (rowsOf log) (pileOf pile), one-form log (known log p .form))) (refl, refl)
 
 module _ (c : Call) (d : Desk) (h : Accepted (c .edit) (d .log) (c .pile) (d .table)) where
   abbrev now : List ℕ

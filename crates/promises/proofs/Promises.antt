@@ -8,6 +8,7 @@ use mathlib.Core.List.{List, [], _∷_, _++_, map}
 use Prim.Native.Nat.{ℕ, _*_, _-_, _^_, _<_, _≤_}
 use native.Mathlib.Omega.{arith}
 use lib.ListN.{length, getD, take, drop, replicate}
+use Rattle.rules.specs.declared.Row.{Row}
 use Rattle.rules.specs.declared.Soil.{Soil}
 use Rattle.rules.specs.declared.Log.{Log}
 use Rattle.rules.specs.declared.Pile.{Pile}
@@ -15,7 +16,7 @@ use Rattle.rules.specs.declared.Slice.{Slice}
 use Rattle.rules.specs.Base.{refuses, nothing, first}
 use Rattle.rules.specs.Widths.{Fits, Bytes}
 use Rattle.rules.specs.Records.{plainSize, gradedSize, sliceWidths, sliceFields, sliceSize}
-use Rattle.rules.specs.Limits.{rowLimit, placeLimit, limitOf, logSize, tableSize, freeGrade}
+use Rattle.rules.specs.Limits.{rowLimit, placesFor, placeLimit, limitOf, logSize, tableSize, tipLimit, freeGrade}
 use Rattle.rules.specs.Grades.{cutDepth, fillHeight, withGrade}
 use Rattle.rules.specs.Packed.{rowsOf, pileOf, sliceBytes, slicesBytes, tableBytes}
 use Rattle.rules.specs.Ranges.{LogInRange, PileInRange, TakesGrade, Sound}
@@ -44,35 +45,38 @@ use Rattle.rules.proofs.KnownEdits as KnownEdits
 use Rattle.rules.proofs.StratumLaws as StratumLaws
 use Rattle.rules.proofs.RunLaws as RunLaws
 use Rattle.rules.proofs.GradeLaws as GradeLaws
+use Rattle.rules.proofs.RoomLaws as RoomLaws
 use Rattle.record_packing.proofs.RoundTrip as LogTrip
 use Rattle.record_pile_bytes.proofs.RoundTrip as PileTrip
 use Rattle.record_slice_table.proofs.RoundTrip as SliceTrip
 use Rattle.promises.proofs.AcceptedEdits as Edits
 use Rattle.promises.proofs.AfterRun as Run
+use Rattle.promises.proofs.Room as Room
 
 -- Demand 1. "Every log, pile record, slice table and edit, however damaged, gets a reply": no contract of the door has a condition.
 
--- "A calculation checks 1 to 12, then 15, in order.": the first that refuses is the one replied
+-- "A calculation checks 1 to 12 .. in order.": the first that refuses is the one replied
 pub first-in-order : (log pile table : List ℕ) → calculated log pile table .refusal ≡ calculationChecks log pile table
 first-in-order log pile table = OrderLaws.calculation-refusal log pile table
 
 -- "An edit checks 1 to 4 of what is lent, 13, 14, then 3 for its new row (row number k), then 4 for the new log; these refuse the edit. After
--- that 5 to 12 and 15 refuse nothing: they become the held answer."
+-- that 5 to 12 .. refuse nothing: they become the held answer."
 pub first-in-order-of-an-edit : (e : Edit) (log pile table : List ℕ)
     → editReply e log pile table .refusal ≡ first (editChecks e log pile table) (groundChecks (soilAt (rowsOf (editedLog e log))) (depthOf (rowsOf (editedLog e log))) (pileOf pile))
 first-in-order-of-an-edit e log pile table = OrderLaws.edit-refusal e log pile table
 
 -- each check of these lists refuses with its own number, or tells nothing
 pub listed : (wrong : Bool) (e : Edit) (log : List ℕ) (g : ℕ → Soil) (depth : ℕ) (p : Pile)
-    → Numbered (1 ∷ 2 ∷ 3 ∷ 4 ∷ 5 ∷ 6 ∷ 7 ∷ 8 ∷ 9 ∷ 10 ∷ 11 ∷ 12 ∷ 15 ∷ []) (oneToFour wrong log ++ fiveOn g depth p)
+    → Numbered (1 ∷ 2 ∷ 3 ∷ 4 ∷ 5 ∷ 6 ∷ 7 ∷ 8 ∷ 9 ∷ 10 ∷ 11 ∷ 12 ∷ []) (oneToFour wrong log ++ fiveOn g depth p)
     × Numbered (1 ∷ 2 ∷ 3 ∷ 4 ∷ 13 ∷ 14 ∷ 3 ∷ 4 ∷ []) (oneToFour wrong log ++ thirteenOn e log)
 listed wrong e log g depth p = (ListedLaws.calculation-listed wrong log g depth p, ListedLaws.edit-listed wrong e log)
 
--- so a refused edit and an accepted one that holds a refusal differ by the number
+-- so these numbers are replied and no other, and a refused edit and an accepted one that holds a refusal differ by the number
 pub told-by-number : (e : Edit) (log pile table : List ℕ) (g : ℕ → Soil) (depth : ℕ) (p : Pile)
-    → (OneOf (1 ∷ 2 ∷ 3 ∷ 4 ∷ 13 ∷ 14 ∷ 3 ∷ 4 ∷ []) (editChecks e log pile table .number) ⊎ (editChecks e log pile table ≡ nothing))
-    × (OneOf (5 ∷ 6 ∷ 7 ∷ 8 ∷ 9 ∷ 10 ∷ 11 ∷ 12 ∷ 15 ∷ []) (groundChecks g depth p .number) ⊎ (groundChecks g depth p ≡ nothing))
-told-by-number e log pile table g depth p = (ListedLaws.edit-number e log pile table, ListedLaws.ground-number g depth p)
+    → (OneOf (1 ∷ 2 ∷ 3 ∷ 4 ∷ 5 ∷ 6 ∷ 7 ∷ 8 ∷ 9 ∷ 10 ∷ 11 ∷ 12 ∷ []) (calculationChecks log pile table .number) ⊎ (calculationChecks log pile table ≡ nothing))
+    × (OneOf (1 ∷ 2 ∷ 3 ∷ 4 ∷ 13 ∷ 14 ∷ 3 ∷ 4 ∷ []) (editChecks e log pile table .number) ⊎ (editChecks e log pile table ≡ nothing))
+    × (OneOf (5 ∷ 6 ∷ 7 ∷ 8 ∷ 9 ∷ 10 ∷ 11 ∷ 12 ∷ []) (groundChecks g depth p .number) ⊎ (groundChecks g depth p ≡ nothing))
+told-by-number e log pile table g depth p = (ListedLaws.calculation-number log pile table, ListedLaws.edit-number e log pile table, ListedLaws.ground-number g depth p)
 
 -- "a calculation refused by 1 to 4, changes no buffer", "zeros for line, tip, shaft, capacity, uplift and kept"
 pub refused-calculation : (log pile table : List ℕ) → refuses (lentChecks log pile table) ≡ true
@@ -80,7 +84,7 @@ pub refused-calculation : (log pile table : List ℕ) → refuses (lentChecks lo
 unfolding calculated tableAfter
 refused-calculation log pile table h = (rw h, rw h)
 
--- "Under 5 to 12 or 15 the table becomes all zero"
+-- "Under 5 to 12 .. the table becomes all zero"
 pub refused-pile : (log pile table : List ℕ) → LentPassed log pile table → refuses (calculated log pile table .refusal) ≡ true
     → (calculated log pile table ≡ refused (calculated log pile table .refusal)) × (tableAfter log pile table ≡ replicate (tableSize (limitOf log)) 0)
 unfolding calculated tableAfter freshAnswer freshTable answerOf heldSlicesOf tableBytes slicesBytes
@@ -96,7 +100,7 @@ pub refused-edit : (e : Edit) (log pile table : List ℕ) → refuses (editCheck
 unfolding editReply editLog editTable
 refused-edit e log pile table h = (rw h, rw h, rw h)
 
--- "Under 5 to 12 or 15 the table becomes all zero; the log holds the edit": and "zeros for line, tip, shaft, capacity, uplift and kept"
+-- "Under 5 to 12 .. the table becomes all zero; the log holds the edit": and "zeros for line, tip, shaft, capacity, uplift and kept"
 pub refused-pile-of-an-edit : (e : Edit) (log pile table : List ℕ) → Accepted e log pile table → refuses (editReply e log pile table .refusal) ≡ true
     → (editReply e log pile table ≡ refused (editReply e log pile table .refusal)) × (editTable e log pile table ≡ replicate (length table) 0) × (editLog e log pile table ≡ editedLog e log)
 refused-pile-of-an-edit e log pile table h g = Edits.pile-refused e log pile table h g
@@ -250,3 +254,16 @@ either-length e a b log table h k f = (
 pub small-grade : (g : ℕ → Soil) (depth : ℕ) (p : Pile) → cutDepth (p .grade) ≤ freeGrade → fillHeight (p .grade) ≤ freeGrade → cutDepth (p .grade) ≤ p .head
     → (answer g depth p ≡ answer g depth (withGrade 0 p)) × (heldSlices g depth p ≡ heldSlices g depth (withGrade 0 p))
 small-grade g depth p c f h = (GradeLaws.answer-level p c f h g depth, GradeLaws.held-level p c f h g depth)
+
+-- Request (iii) of 02. "Show from the row, tip and slice limits that 83 places always do.": in a log of at most n rows that goes down to the
+-- tip, a shaft down to at most 40,000 mm has at most n + 19 slices, for every n: 83 for 64 rows
+pub always-room : (rs : List Row) (p : Pile) (n : ℕ) → length rs ≤ n → p .tip ≤ depthOf rs → p .tip ≤ tipLimit → length (shaftSlices (soilAt rs) p) ≤ placesFor n
+always-room rs p n k d h = RoomLaws.slices-room rs p n k d h
+
+-- so what is held of lent bytes has places in the table that goes with the log
+pub slices-have-places : (log pile table : List ℕ) → LentPassed log pile table → length (heldSlices (soilAt (rowsOf log)) (depthOf (rowsOf log)) (pileOf pile)) ≤ placesFor (limitOf log)
+slices-have-places log pile table h = Room.places-enough log pile table h
+
+-- and, whatever is lent, a calculation and an edit leave the table as long as it was
+pub table-keeps-its-length : (e : Edit) (log pile table : List ℕ) → (length (tableAfter log pile table) ≡ length table) × (length (editTable e log pile table) ≡ length table)
+table-keeps-its-length e log pile table = (Room.calculation-long log pile table, Room.edit-long e log pile table)

@@ -14,12 +14,10 @@ use Rattle.rules.specs.Ranges.{SlicesFit}
 use Rattle.rules.specs.Checks.{Passed}
 use Rattle.rules.specs.Calculation.{heldSlicesOf, freshTable}
 use Rattle.rules.specs.EditReplies.{kept, keptIn, keptOf, usedSlices}
-use Rattle.rules.proofs.FormLaws.{one-form}
-use Rattle.rules.proofs.PassedLaws.{known}
+use Rattle.rules.proofs.RoomLaws.{log-room}
 use Rattle.record_slice_table.proofs.TableLaws.{bytes-long}
 use Rattle.record_slices.proofs.RoundTrip.{slice-there}
 use Rattle.ground_cuts.proofs.FitLaws.{rows-fit}
-use Rattle.answer_work.proofs.SliceLaws.{few-slices}
 
 -- a zero place ends the count
 zeros-end : (m : ℕ) (lent : List ℕ) → keptIn m (replicate (m * sliceSize) 0) lent ≡ 0
@@ -61,5 +59,4 @@ pub kept-is : (log pile table : List ℕ) → Passed log → kept (usedSlices lo
 unfolding freshTable
 kept-is log pile table p =
     let cs = heldSlicesOf (rowsOf log) (pileOf pile) in
-    let few : length cs ≤ placesFor (limitOf log) = omega (arith, few-slices (rowsOf log) (pileOf pile), one-form log (known log p .form)) in
-    sym (kept-of (placesFor (limitOf log)) cs table (rows-fit (rowsOf log) pile) few)
+    sym (kept-of (placesFor (limitOf log)) cs table (rows-fit (rowsOf log) pile) (log-room log pile p))

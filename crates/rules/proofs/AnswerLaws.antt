@@ -35,7 +35,7 @@ pub record Clear (depth : ℕ) (p : Pile) : Type 0 where
   pub good : refuses (pileChecks p) ≡ false
   pub order : p .head < p .tip
   pub far : 3000 ≤ p .tip
-  pub near : p .tip ≤ 40000
+  pub near : p .tip ≤ tipLimit
   pub level : cutDepth (p .grade) ≤ p .head
   pub deep : p .tip + 5000 ≤ depth
 
@@ -52,7 +52,7 @@ clear depth p e =
       good = r .0;
       order = leb-false (p .tip) (p .head) (either-left _ _ a);
       far = ltb-false (p .tip) 3000 (either-left _ _ b);
-      near = ltb-false 40000 (p .tip) (either-left _ _ d);
+      near = ltb-false tipLimit (p .tip) (either-left _ _ d);
       level = ltb-false (p .head) (cutDepth (p .grade)) (either-left _ _ graded);
       deep = ltb-false depth (p .tip + 5000) (when-off 7 (logShort depth p) (q .1));
     }
@@ -97,7 +97,7 @@ only-millimetres rs ts p h = (
   ap₂ (λ (g : ℕ → Soil) (d : ℕ). heldSlices g d p) (one-ground rs ts h) (h .0),
 )
 
--- under 5 to 12 or 15 every number is zero, and no slice is held
+-- under 5 to 12 every number is zero, and no slice is held
 module _ (g : ℕ → Soil) (depth : ℕ) (p : Pile) where
   refused-by : (t : Bool) (r : Refusal) (full : Answer) → refuses (full .refusal) ≡ false → t ≡ refuses r → refuses (pick t (refused r) full .refusal) ≡ true
       → (pick t (refused r) full ≡ refused (pick t (refused r) full .refusal)) × (pick t [] (shaftSlices g p) ≡ [])

@@ -19,7 +19,7 @@ use Rattle.rules.specs.Pieces.{Piece, pieces, runTop}
 use Rattle.rules.specs.Numbers.{sand, friction, factor, sliceOf, sliceEach, belowTip, shaftSlices, tipRead, isDash, pascals, resistance, lineOf, tipForce, shaftForce, upliftOf}
 use Rattle.rules.specs.Base.{pick, either, refuses, when, inOrder}
 use Rattle.rules.specs.Edits.{Edit}
-use Rattle.rules.specs.Checks.{lengthsWrong, wrongPileField, sectionCheck, methodWrong, depthsWrong, logShort, seatShort, tooSoft, tooMany, lentChecks, groundChecks, editChecks}
+use Rattle.rules.specs.Checks.{lengthsWrong, wrongPileField, sectionCheck, methodWrong, depthsWrong, logShort, seatShort, tooSoft, lentChecks, groundChecks, editChecks}
 use Rattle.rules.specs.Answers.{refused, numbers, answer, heldSlices}
 use Rattle.rules.specs.Calculation.{freshAnswer, freshTable, calculated, tableAfter}
 use Rattle.rules.specs.EditReplies.{editAnswer, editReply, editLog, editTable}
@@ -103,7 +103,6 @@ module _ (p : Pile) (c : cutDepth (p .grade) ≤ freeGrade) (f : fillHeight (p .
           when (seatShort (runTop g soil (belowTip p)) p) 10 ∷
           when (tooSoft soil) 11 ∷
           when (isDash (tipRead (as-level 1 (p .tip) i) (soil .index))) 12 ∷
-          when (tooMany (length (cut-level i))) 15 ∷
           [])
 
       pub answer-level : answer g depth p ≡ answer g depth level

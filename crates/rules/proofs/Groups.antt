@@ -15,7 +15,7 @@ use Rattle.rules.specs.Packed.{rowsOf, pileOf}
 use Rattle.rules.specs.Pieces.{runTop}
 use Rattle.rules.specs.Numbers.{sand, belowTip, shaftSlices, lineOf, resistance}
 use Rattle.rules.specs.Edits.{Edit, editedRows}
-use Rattle.rules.specs.Checks.{formless, pileLengthWrong, lengthsWrong, editLengthsWrong, unusedWrong, firstWrong, newRowCheck, tooDeep, sectionCheck, methodWrong, depthsWrong, logShort, seatShort, tooSoft, dashed, namesNothing, full, tooMany, lentChecks, logChecks, groundChecks, editChecks}
+use Rattle.rules.specs.Checks.{formless, pileLengthWrong, lengthsWrong, editLengthsWrong, unusedWrong, firstWrong, newRowCheck, tooDeep, sectionCheck, methodWrong, depthsWrong, logShort, seatShort, tooSoft, dashed, namesNothing, full, lentChecks, logChecks, groundChecks, editChecks}
 use Rattle.rules.specs.Reading.{noPile, pileTold, readPile, gradeLost, packPileCheck}
 use Rattle.rules.specs.Answers.{refused, numbers, answer, heldSlices}
 use Rattle.rules.proofs.RefusalLaws.{first-assoc}
@@ -39,18 +39,18 @@ early depth p = first (pileChecks p) (first (when (depthsWrong p) 7) (when (logS
 unfoldable pub late : Soil → ℕ → Pile → Refusal
 late soil top p = first (when (sand soil) 9) (first (when (seatShort top p) 10) (first (when (tooSoft soil) 11) (when (dashed soil p) 12)))
 
--- 5 to 12 and 15, with the slices too; the answer and the slices held
-unfoldable pub checksFrom : ℕ → Soil → ℕ → List Slice → Pile → Refusal
-checksFrom depth soil top cut p = first (early depth p) (first (late soil top p) (when (tooMany (length cut)) 15))
+-- 5 to 12; the answer and the slices held
+unfoldable pub checksFrom : ℕ → Soil → ℕ → Pile → Refusal
+checksFrom depth soil top p = first (early depth p) (late soil top p)
 
 unfoldable pub answerFrom : ℕ → Soil → ℕ → List Slice → Pile → Answer
 answerFrom depth soil top cut p =
-    let r = checksFrom depth soil top cut p in
+    let r = checksFrom depth soil top p in
     let full = numbers soil p (resistance p soil) (lineOf cut) in
     pick (refuses r) (refused r) full
 
 unfoldable pub slicesFrom : ℕ → Soil → ℕ → List Slice → Pile → List Slice
-slicesFrom depth soil top cut p = let r = checksFrom depth soil top cut p in pick (refuses r) [] cut
+slicesFrom depth soil top cut p = let r = checksFrom depth soil top p in pick (refuses r) [] cut
 
 -- 13, 14, 3 of the new row and 4 of the new log
 unfoldable pub changeChecks : Edit → List ℕ → Refusal
@@ -87,9 +87,9 @@ pack-pile-grouped p s = refl
 
 -- of a ground g
 module _ (g : ℕ → Soil) (depth : ℕ) (p : Pile) where
-  pub ground-grouped : groundChecks g depth p ≡ checksFrom depth (g (belowTip p)) (runTop g (g (belowTip p)) (belowTip p)) (shaftSlices g p) p
+  pub ground-grouped : groundChecks g depth p ≡ checksFrom depth (g (belowTip p)) (runTop g (g (belowTip p)) (belowTip p)) p
   unfolding groundChecks checksFrom early late pileChecks
-  ground-grouped = rw (first-assoc, first-assoc, first-assoc, first-assoc, first-assoc, first-assoc)
+  ground-grouped = rw (first-assoc, first-assoc, first-assoc)
 
   pub answer-grouped : answer g depth p ≡ answerFrom depth (g (belowTip p)) (runTop g (g (belowTip p)) (belowTip p)) (shaftSlices g p) p
   unfolding answer answerFrom

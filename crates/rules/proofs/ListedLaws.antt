@@ -10,9 +10,10 @@ use Rattle.rules.specs.declared.Row.{Row}
 use Rattle.rules.specs.declared.Soil.{Soil}
 use Rattle.rules.specs.declared.Pile.{Pile}
 use Rattle.rules.specs.Base.{pick, both, nothing, refuses, when, first, firstOf, inOrder}
-use Rattle.rules.specs.Packed.{rowAt, rowsOf}
+use Rattle.rules.specs.Packed.{rowAt, rowsOf, pileOf}
+use Rattle.rules.specs.Ground.{soilAt, depthOf}
 use Rattle.rules.specs.Edits.{Edit, brings}
-use Rattle.rules.specs.Checks.{wrongField, firstWrong, newRowCheck, wrongPileField, sectionCheck, oneToFour, fiveOn, thirteenOn, editLengthsWrong, groundChecks, editChecks, Numbered, OneOf}
+use Rattle.rules.specs.Checks.{wrongField, firstWrong, newRowCheck, wrongPileField, sectionCheck, oneToFour, fiveOn, thirteenOn, lengthsWrong, editLengthsWrong, groundChecks, calculationChecks, editChecks, Numbered, OneOf}
 
 -- one check
 abbrev Own : ℕ → Refusal → Type 0
@@ -44,12 +45,12 @@ unfolding sectionCheck
 section-own p = picked (ltb 0 (wrongPileField p)) 5 _ refl
 
 -- the list of a calculation, and that of an edit
-pub pile-listed : (g : ℕ → Soil) (depth : ℕ) (p : Pile) → Numbered (5 ∷ 6 ∷ 7 ∷ 8 ∷ 9 ∷ 10 ∷ 11 ∷ 12 ∷ 15 ∷ []) (fiveOn g depth p)
+pub pile-listed : (g : ℕ → Soil) (depth : ℕ) (p : Pile) → Numbered (5 ∷ 6 ∷ 7 ∷ 8 ∷ 9 ∷ 10 ∷ 11 ∷ 12 ∷ []) (fiveOn g depth p)
 pile-listed g depth p =
-    (section-own p, (when-own _ 6, (when-own _ 7, (when-own _ 8, (when-own _ 9, (when-own _ 10, (when-own _ 11, (when-own _ 12, (when-own _ 15, tt)))))))))
+    (section-own p, (when-own _ 6, (when-own _ 7, (when-own _ 8, (when-own _ 9, (when-own _ 10, (when-own _ 11, (when-own _ 12, tt))))))))
 
 pub calculation-listed : (wrong : Bool) (log : List ℕ) (g : ℕ → Soil) (depth : ℕ) (p : Pile)
-    → Numbered (1 ∷ 2 ∷ 3 ∷ 4 ∷ 5 ∷ 6 ∷ 7 ∷ 8 ∷ 9 ∷ 10 ∷ 11 ∷ 12 ∷ 15 ∷ []) (oneToFour wrong log ++ fiveOn g depth p)
+    → Numbered (1 ∷ 2 ∷ 3 ∷ 4 ∷ 5 ∷ 6 ∷ 7 ∷ 8 ∷ 9 ∷ 10 ∷ 11 ∷ 12 ∷ []) (oneToFour wrong log ++ fiveOn g depth p)
 calculation-listed wrong log g depth p = (when-own _ 1, (when-own _ 2, (wrong-own 1 (rowsOf log), (when-own _ 4, pile-listed g depth p))))
 
 pub edit-listed : (wrong : Bool) (e : Edit) (log : List ℕ) → Numbered (1 ∷ 2 ∷ 3 ∷ 4 ∷ 13 ∷ 14 ∷ 3 ∷ 4 ∷ []) (oneToFour wrong log ++ thirteenOn e log)
@@ -73,10 +74,18 @@ in-order-own [] (r ∷ rs) h = absurd h
 in-order-own (n ∷ ns) [] h = absurd h
 in-order-own (n ∷ ns) (r ∷ rs) h = first-own n ns r rs h
 
+pub calculation-number : (log pile table : List ℕ) → OneOf (1 ∷ 2 ∷ 3 ∷ 4 ∷ 5 ∷ 6 ∷ 7 ∷ 8 ∷ 9 ∷ 10 ∷ 11 ∷ 12 ∷ []) (calculationChecks log pile table .number) ⊎ (calculationChecks log pile table ≡ nothing)
+unfolding calculationChecks
+calculation-number log pile table =
+    let g = soilAt (rowsOf log) in
+    let depth = depthOf (rowsOf log) in
+    let wrong = lengthsWrong log pile table in
+    in-order-own (1 ∷ 2 ∷ 3 ∷ 4 ∷ 5 ∷ 6 ∷ 7 ∷ 8 ∷ 9 ∷ 10 ∷ 11 ∷ 12 ∷ []) (oneToFour wrong log ++ fiveOn g depth (pileOf pile)) (calculation-listed wrong log g depth (pileOf pile))
+
 pub edit-number : (e : Edit) (log pile table : List ℕ) → OneOf (1 ∷ 2 ∷ 3 ∷ 4 ∷ 13 ∷ 14 ∷ 3 ∷ 4 ∷ []) (editChecks e log pile table .number) ⊎ (editChecks e log pile table ≡ nothing)
 unfolding editChecks
 edit-number e log pile table = let wrong = editLengthsWrong e log pile table in in-order-own (1 ∷ 2 ∷ 3 ∷ 4 ∷ 13 ∷ 14 ∷ 3 ∷ 4 ∷ []) (oneToFour wrong log ++ thirteenOn e log) (edit-listed wrong e log)
 
-pub ground-number : (g : ℕ → Soil) (depth : ℕ) (p : Pile) → OneOf (5 ∷ 6 ∷ 7 ∷ 8 ∷ 9 ∷ 10 ∷ 11 ∷ 12 ∷ 15 ∷ []) (groundChecks g depth p .number) ⊎ (groundChecks g depth p ≡ nothing)
+pub ground-number : (g : ℕ → Soil) (depth : ℕ) (p : Pile) → OneOf (5 ∷ 6 ∷ 7 ∷ 8 ∷ 9 ∷ 10 ∷ 11 ∷ 12 ∷ []) (groundChecks g depth p .number) ⊎ (groundChecks g depth p ≡ nothing)
 unfolding groundChecks
-ground-number g depth p = in-order-own (5 ∷ 6 ∷ 7 ∷ 8 ∷ 9 ∷ 10 ∷ 11 ∷ 12 ∷ 15 ∷ []) (fiveOn g depth p) (pile-listed g depth p)
+ground-number g depth p = in-order-own (5 ∷ 6 ∷ 7 ∷ 8 ∷ 9 ∷ 10 ∷ 11 ∷ 12 ∷ []) (fiveOn g depth p) (pile-listed g depth p)

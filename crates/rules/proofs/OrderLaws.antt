@@ -46,7 +46,7 @@ then-refusal r a = go (refuses r)
 
 ground-none : (g : ℕ → Soil) (depth : ℕ) (p : Pile) → refuses (groundChecks g depth p) ≡ false → groundChecks g depth p ≡ nothing
 unfolding groundChecks
-ground-none g depth p h = last-off _ (_ ∷ _ ∷ _ ∷ _ ∷ _ ∷ _ ∷ _ ∷ []) (when _ 15) (λ k. when-false 15 _ (when-off 14 _ k)) h
+ground-none g depth p h = last-off _ (_ ∷ _ ∷ _ ∷ _ ∷ _ ∷ _ ∷ []) (when _ 12) (λ k. when-false 12 _ (when-off 11 _ k)) h
 
 pub answer-refusal : (g : ℕ → Soil) (depth : ℕ) (p : Pile) → answer g depth p .refusal ≡ groundChecks g depth p
 unfolding answer numbers

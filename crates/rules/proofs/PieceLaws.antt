@@ -7,16 +7,17 @@ use Prim.Native.Nat.{ℕ, zero, suc, _+_, _-_, _<_, _≤_}
 use native.Mathlib.Omega.{arith}
 use borrow.Author.Tests.{ne-eqb}
 use Rattle.rules.specs.declared.Soil.{Soil}
+use Rattle.rules.specs.Limits.{sliceThickness}
 use Rattle.rules.specs.Pieces.{piece, ends, walk, piecesFrom}
 use Rattle.rules.proofs.Basics.{split, same-of}
 
 -- an open piece goes on over its own soil
-pub stays : (t : ℕ) (s u : Soil) → t < 2000 → u ≡ s → ends t s u ≡ false
+pub stays : (t : ℕ) (s u : Soil) → t < sliceThickness → u ≡ s → ends t s u ≡ false
 stays t s u h e =
-    let n : t ≡ 2000 → ⊥ = λ (q : t ≡ 2000). omega arith in
-    rw (ne-eqb t 2000 n, same-of s u (sym e))
+    let n : t ≡ sliceThickness → ⊥ = λ (q : t ≡ sliceThickness). omega arith in
+    rw (ne-eqb t sliceThickness n, same-of s u (sym e))
 
-pub hold : (g : ℕ → Soil) (s : Soil) (a n m t : ℕ) → t + n ≤ 2000 → ((k : ℕ) → a + t ≤ k → k < a + t + n → g k ≡ s) → walk g (n + m) a t s ≡ walk g m a (t + n) s
+pub hold : (g : ℕ → Soil) (s : Soil) (a n m t : ℕ) → t + n ≤ sliceThickness → ((k : ℕ) → a + t ≤ k → k < a + t + n → g k ≡ s) → walk g (n + m) a t s ≡ walk g m a (t + n) s
 unfolding walk
 hold g s a zero m t h c =
     let e : zero + m ≡ m = omega arith in
@@ -29,7 +30,7 @@ hold g s a (suc n) m t h c =
     (hold g s a n m (t + 1) (omega arith) (λ k p q. c k (omega arith) (omega arith)))
 
 -- the next piece is t thick if its soil goes on that far, and it ends there
-pub turn : (g : ℕ → Soil) (a n t : ℕ) → 0 < t → t ≤ 2000 → t ≤ n → ((k : ℕ) → a ≤ k → k < a + t → g k ≡ g a)
+pub turn : (g : ℕ → Soil) (a n t : ℕ) → 0 < t → t ≤ sliceThickness → t ≤ n → ((k : ℕ) → a ≤ k → k < a + t → g k ≡ g a)
     → (t < n → ends t (g a) (g (a + t)) ≡ true)
     → piecesFrom g a n ≡ piece a t (g a) ∷ piecesFrom g (a + t) (n - t)
 unfolding piecesFrom walk

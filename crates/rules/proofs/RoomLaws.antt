@@ -1,4 +1,4 @@
--- The shaft has room: over a log of at most n rows, a shaft of at most 40,000 mm has at most n + 19 slices.
+-- The table has places enough: in a log of at most n rows that goes down to the tip, a shaft down to at most 40,000 mm has at most n + 19 slices.
 use mathlib.Core.Path.{_≡_, refl, sym, _∙_, ap}
 use mathlib.Core.Bool.{Bool, true, false, true≢false}
 use mathlib.Core.Logic.{_⊎_, inl, inr, ⊎-elim}
@@ -8,16 +8,24 @@ use native.Mathlib.Omega.{arith}
 use lib.ListN.{length}
 use lib.Dec.{ltb, eqb}
 use borrow.Author.Tests.{lt-ltb, le-ltb, eqb-true, eqb-false}
-use Rattle.rules.specs.Base.{pick, either, neg}
-use Rattle.rules.specs.Limits.{placesFor, tipLimit, sliceThickness}
+use Rattle.rules.specs.Base.{pick, either, neg, refuses}
+use Rattle.rules.specs.Limits.{limitOf, placesFor, tipLimit, sliceThickness}
+use Rattle.rules.specs.Packed.{rowsOf, pileOf}
 use Rattle.rules.specs.Ground.{depthOf, same, soilAt}
 use Rattle.rules.specs.Pieces.{Piece, piece, ends, walk, piecesFrom, pieces}
-use Rattle.rules.specs.Numbers.{sliceEach}
+use Rattle.rules.specs.Numbers.{sliceEach, shaftSlices}
+use Rattle.rules.specs.Checks.{groundChecks, Passed}
+use Rattle.rules.specs.Answers.{heldSlices}
+use Rattle.rules.specs.Calculation.{heldSlicesOf}
 use Rattle.rules.specs.declared.Soil.{Soil}
 use Rattle.rules.specs.declared.Row.{Row}
 use Rattle.rules.specs.declared.Pile.{Pile}
 use Rattle.rules.proofs.Basics.{split, same-eq, same-of}
 use Rattle.rules.proofs.GroundLaws.{soil-here, soil-below}
+use Rattle.rules.proofs.RefusalLaws.{first-off}
+use Rattle.rules.proofs.Groups.{early, checksFrom, ground-grouped}
+use Rattle.rules.proofs.PassedLaws.{known}
+use Rattle.rules.proofs.AnswerLaws.{clear}
 
 -- the rows from the one that holds millimetre m down
 unfoldable rank : List Row → ℕ → ℕ
@@ -70,7 +78,7 @@ onward (r ∷ rs) m =
     (split m (r .thickness)))
     (split (m + 1) (r .thickness))
 
-pick-length : (b : Bool) (xs ys : List Piece) (n : ℕ) → (b ≡ true → length xs ≤ n) → (b ≡ false → length ys ≤ n) → length (pick b xs ys) ≤ n
+pick-length : {A : Type 0} (b : Bool) (xs ys : List A) (n : ℕ) → (b ≡ true → length xs ≤ n) → (b ≡ false → length ys ≤ n) → length (pick b xs ys) ≤ n
 pick-length true xs ys n p q = p refl
 pick-length false xs ys n p q = q refl
 
@@ -110,7 +118,7 @@ module _ (g : ℕ → Soil) (c : ℕ → ℕ) (e : ℕ) (on : Onward g c) (some 
   room-from a zero l h = omega arith
   room-from a (suc n) l h = omega (arith, room-walk n a 1 a (g a) refl (omega arith) refl (omega arith))
 
--- a log of at most n rows, a tip of at most 40,000: at most n + 19 slices
+-- a log of at most n rows that goes down to the tip, a tip of at most 40,000: at most n + 19 slices
 pub room : (rs : List Row) (head tip n : ℕ) → length rs ≤ n → tip ≤ depthOf rs → tip ≤ tipLimit → length (pieces (soilAt rs) head tip) ≤ placesFor n
 unfolding pieces
 room rs head tip n k d h =
@@ -122,5 +130,19 @@ unfolding sliceEach
 slices-length p [] = refl
 slices-length p (c ∷ cs) = ap suc (slices-length p cs)
 
-pub slices-room : (rs : List Row) (p : Pile) (n : ℕ) → length rs ≤ n → p .tip ≤ depthOf rs → p .tip ≤ tipLimit → length (sliceEach p (pieces (soilAt rs) (p .head) (p .tip))) ≤ placesFor n
+pub slices-room : (rs : List Row) (p : Pile) (n : ℕ) → length rs ≤ n → p .tip ≤ depthOf rs → p .tip ≤ tipLimit → length (shaftSlices (soilAt rs) p) ≤ placesFor n
 slices-room rs p n k d h = rw (slices-length p (pieces (soilAt rs) (p .head) (p .tip))) (room rs (p .head) (p .tip) n k d h)
+
+-- what is held has places: 7 and 8 see to the tip's limit and the log's depth, and where a check refuses nothing is held
+pub held-room : (rs : List Row) (p : Pile) (n : ℕ) → length rs ≤ n → length (heldSlicesOf rs p) ≤ placesFor n
+unfolding heldSlicesOf heldSlices checksFrom
+held-room rs p n k =
+    pick-length (refuses (groundChecks (soilAt rs) (depthOf rs) p)) [] (shaftSlices (soilAt rs) p) (placesFor n)
+    (λ h. omega arith)
+    (λ h.
+    let c = clear (depthOf rs) p (first-off (early (depthOf rs) p) _ (rw (ground-grouped (soilAt rs) (depthOf rs) p) at h) .0) in
+    slices-room rs p n k (omega (arith, c .deep)) (c .near))
+
+-- of a log past its checks, by its own form
+pub log-room : (log pile : List ℕ) → Passed log → length (heldSlicesOf (rowsOf log) (pileOf pile)) ≤ placesFor (limitOf log)
+log-room log pile h = let k = known log h in held-room (rowsOf log) (pileOf pile) (limitOf log) (omega (arith, k .rows, k .few))

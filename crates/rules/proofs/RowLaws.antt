@@ -8,6 +8,7 @@ use native.Mathlib.Omega.{arith}
 use lib.Dec.{eqb}
 use borrow.Author.Tests.{lt-ltb, le-ltb, eq-eqb}
 use Rattle.rules.specs.Base.{either, neg}
+use Rattle.rules.specs.Limits.{sliceThickness}
 use Rattle.rules.specs.Ground.{depthOf, same, soilOf, soilAt}
 use Rattle.rules.specs.Pieces.{Piece, piece, ends, piecesFrom}
 use Rattle.rules.proofs.ByRows.{Positive, lead, extent, thickAt, cuts}
@@ -111,15 +112,15 @@ next rs a n p z l =
     let v : 0 < extent rs a = extent-pos rs a (omega arith) in
     turn (soilAt rs) a n (thickAt rs a n) (omega arith) (omega arith) (omega arith)
     (λ k q w. extent-in rs a k q (omega arith))
-    (λ w. ⊎-elim (short w) (long w) (split (extent rs a) 2000))
+    (λ w. ⊎-elim (short w) (long w) (split (extent rs a) sliceThickness))
   where
-    short : thickAt rs a n < n → extent rs a < 2000 → ends (thickAt rs a n) (soilAt rs a) (soilAt rs (a + thickAt rs a n)) ≡ true
+    short : thickAt rs a n < n → extent rs a < sliceThickness → ends (thickAt rs a n) (soilAt rs a) (soilAt rs (a + thickAt rs a n)) ≡ true
     short w q =
         let e : thickAt rs a n ≡ extent rs a = omega arith in
-        rw e (changed (eqb (extent rs a) 2000) (same (soilAt rs a) (soilAt rs (a + extent rs a))) (extent-out rs a p (omega arith)))
+        rw e (changed (eqb (extent rs a) sliceThickness) (same (soilAt rs a) (soilAt rs (a + extent rs a))) (extent-out rs a p (omega arith)))
 
-    long : thickAt rs a n < n → 2000 ≤ extent rs a → ends (thickAt rs a n) (soilAt rs a) (soilAt rs (a + thickAt rs a n)) ≡ true
-    long w q = rw (eq-eqb (thickAt rs a n) 2000 (omega arith))
+    long : thickAt rs a n < n → sliceThickness ≤ extent rs a → ends (thickAt rs a n) (soilAt rs a) (soilAt rs (a + thickAt rs a n)) ≡ true
+    long w q = rw (eq-eqb (thickAt rs a n) sliceThickness (omega arith))
 
 pub by-rows : (rs : List Row) (k a n : ℕ) → Positive rs → n ≤ k → a + n ≤ depthOf rs → cuts rs k a n ≡ piecesFrom (soilAt rs) a n
 unfolding cuts piecesFrom

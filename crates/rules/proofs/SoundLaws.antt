@@ -1,22 +1,21 @@
--- A pile stands where no check of 5 to 12 and 15 refuses it, and only there; then the answer is its numbers.
+-- A pile stands where no check of 5 to 12 refuses it, and only there; then the answer is its numbers.
 use mathlib.Core.Path.{_≡_}
 use mathlib.Core.Bool.{false}
 use mathlib.Core.List.{List}
 use Prim.Native.Nat.{ℕ, _+_, _^_, _<_, max}
 use native.Mathlib.Omega.{arith}
 use lib.Dec.{ltb, leb}
-use lib.ListN.{length}
 use borrow.Author.Tests.{ltb-false, leb-false, le-ltb, lt-leb}
 use Rattle.rules.specs.declared.Soil.{Soil}
 use Rattle.rules.specs.declared.Pile.{Pile}
 use Rattle.rules.specs.Base.{nothing, refuses, when, first}
-use Rattle.rules.specs.Limits.{placeLimit, tipLimit, tableSize, limitOf}
+use Rattle.rules.specs.Limits.{tipLimit, tableSize, limitOf}
 use Rattle.rules.specs.Grades.{cutDepth}
 use Rattle.rules.specs.Packed.{rowsOf, pileOf, tableBytes}
 use Rattle.rules.specs.Ground.{soilAt, depthOf}
 use Rattle.rules.specs.Pieces.{runTop}
 use Rattle.rules.specs.Numbers.{sand, belowTip, tipOf, shaftSlices, resistance, lineOf}
-use Rattle.rules.specs.Checks.{sectionCheck, methodWrong, depthsWrong, logShort, seatOf, seatShort, tooSoft, dashed, tooMany, groundChecks, LentPassed}
+use Rattle.rules.specs.Checks.{sectionCheck, methodWrong, depthsWrong, logShort, seatOf, seatShort, tooSoft, dashed, groundChecks, LentPassed}
 use Rattle.rules.specs.Ranges.{Sound}
 use Rattle.rules.specs.Answers.{numbers, answer, heldSlices}
 use Rattle.rules.specs.Calculation.{answerOf, heldSlicesOf, freshAnswer, freshTable, calculated, tableAfter}
@@ -48,7 +47,6 @@ module _ (g : ℕ → Soil) (depth : ℕ) (p : Pile) where
         le-ltb seat (max (p .a) (p .b)) (s .side),
         le-ltb 160 (soil .index) (s .firm),
         s .read,
-        le-ltb placeLimit (length (shaftSlices g p)) (s .few),
       )
 
   pub passes-sound : p .grade < 2 ^ 16 → refuses (groundChecks g depth p) ≡ false → Sound g depth p
@@ -60,8 +58,7 @@ module _ (g : ℕ → Soil) (depth : ℕ) (p : Pile) where
       let c8 = first-off (when (logShort depth p) 8) _ (c7 .1) in
       let c9 = first-off (when (sand soil) 9) _ (c8 .1) in
       let c10 = first-off (when (seatShort (runTop g soil (belowTip p)) p) 10) _ (c9 .1) in
-      let c11 = first-off (when (tooSoft soil) 11) _ (c10 .1) in
-      let c12 = first-off (when (dashed soil p) 12) (when (tooMany (length (shaftSlices g p))) 15) (c11 .1) in
+      let c11 = first-off (when (tooSoft soil) 11) (when (dashed soil p) 12) (c10 .1) in
       let depths = when-off 6 (depthsWrong p) (c7 .0) in
       let order = leb-false (p .tip) (p .head) (either-left _ _ depths) in
       let range = either-right (leb (p .tip) (p .head)) _ depths in
@@ -80,8 +77,7 @@ module _ (g : ℕ → Soil) (depth : ℕ) (p : Pile) where
         seat = ltb-false seat 2000 (either-left _ _ short);
         side = ltb-false seat (max (p .a) (p .b)) (either-right (ltb seat 2000) _ short);
         firm = ltb-false 160 (soil .index) (when-off 10 (tooSoft soil) (c11 .0));
-        read = when-off 11 (dashed soil p) (c12 .0);
-        few = ltb-false placeLimit (length (shaftSlices g p)) (when-off 14 (tooMany (length (shaftSlices g p))) (c12 .1));
+        read = when-off 11 (dashed soil p) (c11 .1);
       }
 
 -- of lent bytes

@@ -8,6 +8,7 @@ use native.Mathlib.Omega.{arith}
 use lib.Dec.{eqb}
 use borrow.Author.Tests.{lt-ltb, le-ltb, eq-eqb}
 use Rattle.rules.specs.declared.Soil.{Soil}
+use Rattle.rules.specs.Limits.{sliceThickness}
 use Rattle.rules.specs.Ground.{same}
 use Rattle.rules.specs.Pieces.{Piece, piece, stratum, strataFrom, strata, topOf, cutFrom, cutPart, cutParts, ends, piecesFrom, pieces, runTop}
 use Rattle.rules.proofs.Basics.{split, sure, same-eq}
@@ -31,22 +32,22 @@ run-cut g s tip zero a b h l f c d = let e : b ≡ a = omega arith in rw e
 run-cut g s tip (suc k) a b h l f c d =
     ⊎-elim
     (λ (z : a < b).
-    let t : ℕ = min 2000 (b - a) in
+    let t : ℕ = min sliceThickness (b - a) in
     let e : tip - (a + t) ≡ tip - a - t = omega arith in
     rw (lt-ltb a b z)
     (ap (λ (x : List Piece). piece a t (g a) ∷ x) (run-cut g s tip k (a + t) b (omega arith) l (omega arith) (λ m p q. c m (omega arith) q) d)
     ∙ ap (λ (n : ℕ). piece a t (g a) ∷ piecesFrom g (a + t) n) e
-    ∙ sym (turn g a (tip - a) t (omega arith) (omega arith) (omega arith) (λ m p q. c m p (omega arith) ∙ sym (c a (omega arith) z)) (λ w. ⊎-elim (short z w) (long w) (split (b - a) 2000)))))
+    ∙ sym (turn g a (tip - a) t (omega arith) (omega arith) (omega arith) (λ m p q. c m p (omega arith) ∙ sym (c a (omega arith) z)) (λ w. ⊎-elim (short z w) (long w) (split (b - a) sliceThickness)))))
     (λ (z : b ≤ a). let e : b ≡ a = omega arith in rw (le-ltb a b z, e))
     (split a b)
   where
-    short : a < b → min 2000 (b - a) < tip - a → b - a < 2000 → ends (min 2000 (b - a)) (g a) (g (a + min 2000 (b - a))) ≡ true
+    short : a < b → min sliceThickness (b - a) < tip - a → b - a < sliceThickness → ends (min sliceThickness (b - a)) (g a) (g (a + min sliceThickness (b - a))) ≡ true
     short z w q =
-        let e : a + min 2000 (b - a) ≡ b = omega arith in
-        rw (e, c a (omega arith) z) (changed (eqb (min 2000 (b - a)) 2000) (same s (g b)) (d (omega arith)))
+        let e : a + min sliceThickness (b - a) ≡ b = omega arith in
+        rw (e, c a (omega arith) z) (changed (eqb (min sliceThickness (b - a)) sliceThickness) (same s (g b)) (d (omega arith)))
 
-    long : min 2000 (b - a) < tip - a → 2000 ≤ b - a → ends (min 2000 (b - a)) (g a) (g (a + min 2000 (b - a))) ≡ true
-    long w q = rw (eq-eqb (min 2000 (b - a)) 2000 (omega arith))
+    long : min sliceThickness (b - a) < tip - a → sliceThickness ≤ b - a → ends (min sliceThickness (b - a)) (g a) (g (a + min sliceThickness (b - a))) ≡ true
+    long w q = rw (eq-eqb (min sliceThickness (b - a)) sliceThickness (omega arith))
 
 -- down to the tip from u and from v: the same place, or neither above the tip
 from-there : (g : ℕ → Soil) (tip u v : ℕ) → (u < tip → u ≡ v) → (tip ≤ u → tip ≤ v) → piecesFrom g u (tip - u) ≡ piecesFrom g v (tip - v)
@@ -79,7 +80,7 @@ alike-cut g s zero a b c = refl
 alike-cut g s (suc k) a b c =
     ⊎-elim
     (λ (z : a < b).
-    let t : ℕ = min 2000 (b - a) in
+    let t : ℕ = min sliceThickness (b - a) in
     rw (lt-ltb a b z, c a (omega arith) z) (ap (λ (x : List Piece). piece a t s ∷ x) (alike-cut g s k (a + t) b (λ m p q. c m (omega arith) q))))
     (λ (z : b ≤ a). rw (le-ltb a b z))
     (split a b)

@@ -29,6 +29,6 @@ answer g depth p =
     let worked = numbers soil p (resistance p soil) (lineOf (shaftSlices g p)) in
     pick (refuses r) (refused r) worked
 
--- the slices that the table holds. "Under 5 to 12 or 15 the table becomes all zero": none
+-- the slices that the table holds. "Under 5 to 12 .. the table becomes all zero": none
 unfoldable pub heldSlices : (ℕ → Soil) → ℕ → Pile → List Slice
 heldSlices g depth p = pick (refuses (groundChecks g depth p)) [] (shaftSlices g p)

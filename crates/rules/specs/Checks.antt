@@ -1,4 +1,4 @@
--- Checks 1 to 15 of documents 01 and 02, by their numbers, each with its sentence; then which of them a call makes, in order.
+-- Checks 1 to 14 of documents 01 and 02, by their numbers, each with its sentence; then which of them a call makes, in order.
 use mathlib.Core.Path.{_≡_}
 use mathlib.Core.Bool.{Bool, false}
 use mathlib.Core.Logic.{_⊎_}
@@ -12,12 +12,12 @@ use Rattle.rules.specs.declared.Soil.{Soil}
 use Rattle.rules.specs.declared.Pile.{Pile}
 use Rattle.rules.specs.Base.{pick, both, either, neg, within, nothing, refuses, when, inOrder, allZero}
 use Rattle.rules.specs.Records.{rowSize, plainSize, gradedSize}
-use Rattle.rules.specs.Limits.{limitOf, tableSize, placeLimit, thicknessLimit, depthLimit, tipLimit}
+use Rattle.rules.specs.Limits.{limitOf, tableSize, thicknessLimit, depthLimit, tipLimit}
 use Rattle.rules.specs.Grades.{cutDepth}
 use Rattle.rules.specs.Packed.{countOf, rowAt, rowsOf, pileOf}
 use Rattle.rules.specs.Ground.{soilAt, depthOf}
 use Rattle.rules.specs.Pieces.{runTop}
-use Rattle.rules.specs.Numbers.{sand, shaftSlices, belowTip, tipOf, tipRead, isDash}
+use Rattle.rules.specs.Numbers.{sand, belowTip, tipOf, tipRead, isDash}
 use Rattle.rules.specs.Edits.{Edit, brings, grows, stands, editedRows}
 
 -- 1: "a lent piece has the wrong length"
@@ -141,9 +141,7 @@ namesNothing e log = neg (stands e (rowsOf log))
 abbrev pub full : ℕ → ℕ → ℕ → Bool
 full kind limit count = both (grows kind) (leb limit count)
 
--- 15: "shaft needs more than 83 slices": the places of the longest form
-abbrev pub tooMany : ℕ → Bool
-tooMany n = ltb placeLimit n
+-- the next of 01's list: 02 (iii): it "is withdrawn, its number not given out again."
 
 -- "Checks 1 to 4 are the log checks; 1 looks at every lent piece that the call uses."
 abbrev pub oneToFour : Bool → List ℕ → List Refusal
@@ -161,7 +159,6 @@ fiveOn g depth p =
     when (seatShort (runTop g soil (belowTip p)) p) 10 ∷
     when (tooSoft soil) 11 ∷
     when (dashed soil p) 12 ∷
-    when (tooMany (length (shaftSlices g p))) 15 ∷
     []
 
 -- of an edit: 13, 14, "then 3 for its new row (row number k), then 4 for the new log"
@@ -177,11 +174,11 @@ thirteenOn e log =
 unfoldable pub lentChecks : List ℕ → List ℕ → List ℕ → Refusal
 lentChecks log pile table = inOrder (oneToFour (lengthsWrong log pile table) log)
 
--- 5 to 12 and 15
+-- 5 to 12
 unfoldable pub groundChecks : (ℕ → Soil) → ℕ → Pile → Refusal
 groundChecks g depth p = inOrder (fiveOn g depth p)
 
--- "A calculation checks 1 to 12, then 15, in order."
+-- "A calculation checks 1 to 12 .. in order."
 unfoldable pub calculationChecks : List ℕ → List ℕ → List ℕ → Refusal
 calculationChecks log pile table =
     inOrder (oneToFour (lengthsWrong log pile table) log ++ fiveOn (soilAt (rowsOf log)) (depthOf (rowsOf log)) (pileOf pile))

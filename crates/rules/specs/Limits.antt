@@ -19,7 +19,8 @@ forms = rowLimit ∷ []
 abbrev pub logSize : ℕ → ℕ
 logSize n = 1 + n * rowSize
 
--- "83 places", for 64 rows: one row down to 40,000 mm has at most 20 slices of 2,000, and each further row adds at most one
+-- "83 places", for 64 rows. 02 (iii): "Show from the row, tip and slice limits that 83 places always do.": one stratum down to 40,000 mm has
+-- at most 20 slices, each further stratum adds at most one, and there are no more strata than rows (promised of every n: `always-room`)
 abbrev pub placesFor : ℕ → ℕ
 placesFor n = n + 19
 

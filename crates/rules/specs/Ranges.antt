@@ -13,11 +13,11 @@ use Rattle.rules.specs.declared.Pile.{Pile}
 use Rattle.rules.specs.declared.Slice.{Slice}
 use Rattle.rules.specs.Widths.{Fits}
 use Rattle.rules.specs.Records.{plainSize, gradedSize, sliceWidths, sliceFields}
-use Rattle.rules.specs.Limits.{rowLimit, placeLimit, thicknessLimit, tipLimit}
+use Rattle.rules.specs.Limits.{rowLimit, thicknessLimit, tipLimit}
 use Rattle.rules.specs.Grades.{cutDepth}
 use Rattle.rules.specs.Packed.{noRow}
 use Rattle.rules.specs.Pieces.{runTop}
-use Rattle.rules.specs.Numbers.{belowTip, shaftSlices, tipOf, tipRead, isDash}
+use Rattle.rules.specs.Numbers.{belowTip, tipOf, tipRead, isDash}
 use Rattle.rules.specs.Checks.{seatOf}
 
 -- from low to high
@@ -70,7 +70,7 @@ abbrev pub SlicesFit : List Slice → Type 0
 SlicesFit [] = Unit {0}
 SlicesFit (c ∷ cs) = (0 < c .thickness) × Fits sliceWidths (sliceFields c) × SlicesFit cs
 
--- a pile that stands in a ground g which is `depth` deep: what 5 to 12 and 15 ask, as facts
+-- a pile that stands in a ground g which is `depth` deep: what 5 to 12 ask, as facts
 pub record Sound (g : ℕ → Soil) (depth : ℕ) (p : Pile) : Type 0 where
   pub fields : PileInRange p
   -- 7: "head not above tip, or tip under 3,000 or over 40,000"
@@ -90,5 +90,3 @@ pub record Sound (g : ℕ → Soil) (depth : ℕ) (p : Pile) : Type 0 where
   pub firm : g (belowTip p) .index ≤ 160
   -- 12: "a dash in table 7.8 would be read with a weight above zero"
   pub read : isDash (tipRead (tipOf p) (g (belowTip p) .index)) ≡ false
-  -- 15: "shaft needs more than 83 slices"
-  pub few : length (shaftSlices g p) ≤ placeLimit

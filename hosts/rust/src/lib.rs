@@ -238,7 +238,7 @@ impl Numbers {
     }
 }
 
-/// Works out a pile and fills the table. Under refusals 5 to 12 and 15 the table becomes all zero, under 1 to 4 it is left.
+/// Works out a pile and fills the table. Under refusals 5 to 12 the table becomes all zero, under 1 to 4 it is left.
 pub fn calculate(log: &Log, pile: &PileRecord, table: &mut Table) -> Result<Numbers, Refusal> {
     Numbers::of(&door::calculate(&log.bytes, pile.bytes(), &mut table.bytes))
 }
@@ -284,7 +284,7 @@ pub struct Edited {
 }
 
 /// Changes the log and works the pile out again. `Err` is a refused edit: nothing has changed. `Ok` holds the answer, which may itself be a
-/// refusal of the pile (5 to 12 and 15).
+/// refusal of the pile (5 to 12).
 ///
 /// ```
 /// use psamathyr::*;

@@ -41,8 +41,6 @@ pub enum Refusal {
     NoSuchEdit,
     /// 14: insert or split with 64 rows.
     Full,
-    /// 15: the shaft needs more than 83 slices.
-    TooManySlices,
     /// A number that this wrapper does not know.
     Other(u32),
 }
@@ -65,7 +63,6 @@ impl Refusal {
             12 => Refusal::Dash,
             13 => Refusal::NoSuchEdit,
             14 => Refusal::Full,
-            15 => Refusal::TooManySlices,
             number => Refusal::Other(number),
         })
     }
@@ -87,7 +84,6 @@ impl Refusal {
             Refusal::Dash => 12,
             Refusal::NoSuchEdit => 13,
             Refusal::Full => 14,
-            Refusal::TooManySlices => 15,
             Refusal::Other(number) => number,
         }
     }
@@ -125,7 +121,6 @@ impl fmt::Display for Refusal {
             Refusal::Dash => write!(f, "the tip table has no value there"),
             Refusal::NoSuchEdit => write!(f, "no such edit, row or split point"),
             Refusal::Full => write!(f, "the log has no place for another row"),
-            Refusal::TooManySlices => write!(f, "the shaft needs more than 83 slices"),
             Refusal::Other(number) => write!(f, "refusal {number}"),
         }
     }

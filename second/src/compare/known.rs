@@ -6,7 +6,7 @@ use super::lending::Lending;
 use super::makers::Site;
 use super::meter::Meter;
 use second::cases::{self, Known};
-use second::{printed, read_slice, Answer, Pile, Row, Slice, TABLE};
+use second::{printed, read_slice, Answer, Pile, Row, Slice, ROWS, SLICES, TABLE};
 
 fn lend(site: &Site) -> Lending {
     Lending {
@@ -129,6 +129,19 @@ fn tip_cell(meter: &mut Meter, tip: u32, column: usize, index: u8, word: &str) {
             format!("  not the printed {word} kPa: {answer:?}")
         });
     }
+}
+
+/// 64 strata whose slices fill every place of the table.
+pub fn fullest(meter: &mut Meter) {
+    meter.group("every place of the table");
+    let (rows, pile) = cases::fullest();
+    let strata = rows.len();
+    meter.case(format!("{strata} strata"));
+    let (_, answer, table) = meter.calculate(&lend(&Site { rows, pile }));
+    let filled = (0..SLICES as u32).all(|place| read_slice(&table, place).thickness > 0);
+    meter.count(answer.refusal == 0 && strata == ROWS && filled, || {
+        format!("  not {SLICES} slices: {answer:?}")
+    });
 }
 
 /// Slices whose middle lies on a depth of the friction table or just beside it, at
@@ -323,7 +336,7 @@ fn slices_of_case_a(meter: &mut Meter, case: &cases::Case, table: &[u8]) {
     meter.count(table[..7] == cases::SLICE_A, || {
         "  not the printed slice".to_string()
     });
-    for place in 0..second::SLICES {
+    for place in 0..SLICES {
         let expected = match cases::SLICES_A.get(place) {
             Some(&(top, thickness, friction, factor)) => Slice {
                 refusal: 0,

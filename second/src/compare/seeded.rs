@@ -12,7 +12,7 @@ use super::meter::{Edit, Meter};
 use second::{Answer, Pile, Row, SLICE, TABLE};
 
 /// How often each refusal came.
-struct Seen([u64; 16]);
+struct Seen([u64; 15]);
 
 impl Seen {
     fn add(&mut self, answer: &Answer) {
@@ -68,7 +68,7 @@ fn used(table: &[u8]) -> usize {
 
 pub fn calculations(meter: &mut Meter, seed: u64, cases: u64) {
     meter.group("calculations");
-    let mut seen = Seen([0; 16]);
+    let mut seen = Seen([0; 15]);
     let mut grades = Grades::default();
     let mut fullest = 0;
     for case in 0..cases {
@@ -161,7 +161,7 @@ impl Tally {
 pub fn edits(meter: &mut Meter, seed: u64, runs: u64) {
     meter.group("runs of edits");
     let mut tally = Tally {
-        seen: Seen([0; 16]),
+        seen: Seen([0; 15]),
         grades: Grades::default(),
         steps: 0,
         kept: [0; 3],

@@ -47,7 +47,7 @@ pub struct Desk {
     pub steps: Vec<u8>,
     pub lines: Vec<String>,
     /// How many edits got each refusal.
-    pub refusals: [usize; 16],
+    pub refusals: [usize; 15],
 }
 
 impl Desk {
@@ -59,7 +59,7 @@ impl Desk {
             record: PILE as u16,
             steps: Vec::new(),
             lines: Vec::new(),
-            refusals: [0; 16],
+            refusals: [0; 15],
         }
     }
 

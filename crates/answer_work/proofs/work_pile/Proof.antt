@@ -7,7 +7,6 @@ use borrow.Author.Needs.{needs}
 use Rattle.rules.specs.Numbers.{tipOf, tipRead}
 use Rattle.rules.proofs.AnswerLaws.{clear}
 use Rattle.ground_shaft.specs.Shafts.{Ready}
-use Rattle.ground_shaft.proofs.CutLaws.{few}
 use Rattle.answer_numbers.proofs.SideLaws.{sides}
 use Rattle.answer_work.proofs.WorkLaws.{shaft-top, no-tip, done}
 use Rattle.answer_work.proofs.work_pile.Statement.{statement}
@@ -42,7 +41,7 @@ returns c =
     let soft = clear .before .before .before in
     let tip = soft .before in
     let read = tip .before in
-    no-tip _ _ _ (start read .pre .1) (few (ready (start read))) _ (shaft read .cut-shaft .ensures .0 .0) _ (tip .tip-refusal .ensures) _ (clear .before .refuse .ensures) (soft .if1 .taken) _ _ _
+    no-tip _ _ _ (start read .pre .1) _ (shaft read .cut-shaft .ensures .0 .0) _ (tip .tip-refusal .ensures) _ (clear .before .refuse .ensures) (soft .if1 .taken) _ _ _
     (clear .no-work .ensures .0, clear .no-work .ensures .1 ∙ ap (λ (n : ℕ). replicate n 0) (read .before .before .before .before .table .given))
 
 five-numbers-requires : tie.Need-five-numbers-requires
@@ -58,7 +57,7 @@ returns-2 c =
     let tip = right .before in
     let read = tip .before in
     let cut = shaft read .cut-shaft .ensures in
-    done _ _ _ (start read .pre .1) (few (ready (start read))) _ (cut .0 .0) _ (tip .tip-refusal .ensures) (right .if1 .left) _ _ _ _ _
+    done _ _ _ (start read .pre .1) _ (cut .0 .0) _ (tip .tip-refusal .ensures) (right .if1 .left) _ _ _ _ _
     (tip-read read) (line .before .pascals .ensures) (line .line-of .ensures .0) (c .five-numbers .ensures) (cut .1)
 
 pub work-pile-spec : {M : Type 1} → statement M

@@ -22,14 +22,14 @@ kept-count-requires c κs =
     let work = c .before .before .before .before in
     let copy = work .before .before in
     let start = copy .before .before .before .before .before in
-    let n = few (start .args .log .now) (start .args .pile .now) _ (work .work-out .ensures .0 .1) in
+    let n = few (start .args .log .now) (start .args .pile .now) _ (start .pre .0) (work .work-out .ensures .0 .1) in
     let l = room (start .args .log .now) (start .args .table .now) (start .pre .0) (start .pre .2) in
     (omega (arith, n, l), omega (arith, n, l, ap (λ (t : List ℕ). length t) (copy .table-copy .ensures)))
 
 cast-answer : tie.Need-cast-answer
 cast-answer c =
     let start = c .before .before .before .before .before .before .before .before .before .before .before .before .before in
-    record { fits = omega (arith, few (start .args .log .now) (start .args .pile .now) _ (c .before .before .before .before .before .before .work-out .ensures .0 .1), c .before .kept-count .ensures .1) }
+    record { fits = omega (arith, few (start .args .log .now) (start .args .pile .now) _ (start .pre .0) (c .before .before .before .before .before .before .work-out .ensures .0 .1), c .before .kept-count .ensures .1) }
 
 returns : tie.Need-returns
 returns c =
