@@ -13,7 +13,7 @@ use Rattle.rules.specs.declared.Pile.{Pile}
 use Rattle.rules.specs.declared.Slice.{Slice}
 use Rattle.rules.specs.declared.Answer.{Answer}
 use Rattle.rules.specs.declared.Refusal.{Refusal}
-use Rattle.rules.specs.Base.{pick, either, refuses, first, when}
+use Rattle.rules.specs.Base.{pick, refuses, first, when}
 use Rattle.rules.specs.Limits.{tipLimit}
 use Rattle.rules.specs.Grades.{cutDepth}
 use Rattle.rules.specs.Ground.{depthOf, soilAt, Agree}

@@ -141,7 +141,7 @@ namesNothing e log = neg (stands e (rowsOf log))
 abbrev pub full : ℕ → ℕ → ℕ → Bool
 full kind limit count = both (grows kind) (leb limit count)
 
--- the next of 01's list: 02 (iii): it "is withdrawn, its number not given out again."
+-- 01's list has one more, of more slices than places; 02 (iii): it "is withdrawn, its number not given out again."
 
 -- "Checks 1 to 4 are the log checks; 1 looks at every lent piece that the call uses."
 abbrev pub oneToFour : Bool → List ℕ → List Refusal
