@@ -7,11 +7,17 @@
  * A pile record has 8 bytes or, with the grade of its site, 10; calls take both. Depths count from natural ground. The tables are read at
  * depths that a cut of over 3,000 mm lowers, and a fill of over 3,000 mm raises, by what it has over 3,000 mm.
  *
+ * Where sand (kinds 1 to 3) stands just below the tip, a calculation or an edit needs a psamathyr_sand besides, and a circle; over clay it
+ * is not looked at.
+ *
  * Refusals: 1 a lent piece has the wrong length, or a grade other than 0 is to be packed to 8 bytes; 2 count 0 or over 64, or an unused
  * row place not zero; 3 a row's field out of range (row and field given); 4 log over 60,000 mm; 5 section kind, a, b or zero bits wrong
  * (field 1 to 4); 6 method wrong; 7 head not above tip, tip under 3,000 or over 40,000 mm, head above the cut level, or tip's depth as read
- * over 40,000 mm; 8 log ends less than 5,000 mm below the tip; 9 sand just below the tip; 10 seat too short; 11 tip liquidity index over
- * 0.60; 12 a dash of the tip table would be read; 13 no such edit, row or split point; 14 no place for another row. 0 is no refusal.
+ * over 40,000 mm; 8 log ends less than 5,000 mm below the tip; 9 a sand tip without its record or in a rectangle; 10 seat too short;
+ * 11 tip liquidity index over 0.60; 12 a dash of the tip table would be read; 13 no such edit, row or split point; 14 no place for another
+ * row; 17, asked after 10, the record of a sand tip out of range (angle times 0.9 under 23 or over 39 degrees, a unit weight of 0 or over
+ * 30,000 N/m3), or its tip less than 4 diameters below natural ground or, where that is cut, below the cut level. 11 and 12 are asked of
+ * clay tips alone. 0 is no refusal.
  */
 #ifndef PSAMATHYR_H
 #define PSAMATHYR_H
@@ -66,6 +72,13 @@ typedef struct {
     int16_t grade;
 } psamathyr_pile;
 
+/* the extra record of a sand tip. given 0: none, and the rest is not looked at; any other number: the friction angle below the tip in
+ * hundredths of a degree, and two unit weights in N/m3, of the soil below the tip and the mean of the soils above it. All zero but given is
+ * a record out of range (17), none is refusal 9. */
+typedef struct {
+    uint32_t given, angle, weight_below, weight_above;
+} psamathyr_sand;
+
 /* top and thickness in mm, friction in 1/200 Pa, factor in tenths */
 typedef struct {
     uint32_t refusal;
@@ -74,13 +87,13 @@ typedef struct {
     uint8_t factor;
 } psamathyr_slice;
 
-/* Fills the table, or zeroes it (refusals 5 to 12), or leaves it (1 to 4). */
-psamathyr_answer psamathyr_calculate(const uint8_t *log, size_t log_len, const uint8_t *pile, size_t pile_len,
+/* Fills the table, or zeroes it (refusals 5 to 12 and 17), or leaves it (1 to 4). */
+psamathyr_answer psamathyr_calculate(const uint8_t *log, size_t log_len, const uint8_t *pile, size_t pile_len, psamathyr_sand sand,
                                      uint8_t *table, size_t table_len);
 
 /* k names a row from 1; x is the split point in mm; row is the new row's five bytes. What a kind does not use is not looked at.
- * Refused by 1 to 4, 13 or 14 it changes nothing; else the log holds the edit and the table is filled or, under 5 to 12, zeroed. */
-psamathyr_answer psamathyr_edit(uint8_t *log, size_t log_len, const uint8_t *pile, size_t pile_len,
+ * Refused by 1 to 4, 13 or 14 it changes nothing; else the log holds the edit and the table is filled or, under 5 to 12 and 17, zeroed. */
+psamathyr_answer psamathyr_edit(uint8_t *log, size_t log_len, const uint8_t *pile, size_t pile_len, psamathyr_sand sand,
                                 uint8_t *table, size_t table_len, uint32_t kind, uint32_t k, uint32_t x,
                                 const uint8_t *row, size_t row_len);
 

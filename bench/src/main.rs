@@ -4,13 +4,14 @@
 #![forbid(unsafe_code)]
 
 mod plain;
+mod sands;
 
-use psamathyr_door::{Answer, LOG_BYTES as LOG, PILE_BYTES as PILE, TABLE_BYTES as TABLE};
+use psamathyr_door::{Answer, Sand, LOG_BYTES as LOG, PILE_BYTES as PILE, TABLE_BYTES as TABLE};
 use std::process::ExitCode;
 use std::time::Instant;
 
-type Calculate = fn(&[u8], &[u8], &mut [u8]) -> Answer;
-type Edit = fn(&mut [u8], &[u8], &mut [u8], u32, u32, u32, &[u8]) -> Answer;
+type Calculate = fn(&[u8], &[u8], Sand, &mut [u8]) -> Answer;
+type Edit = fn(&mut [u8], &[u8], Sand, &mut [u8], u32, u32, u32, &[u8]) -> Answer;
 
 #[derive(Clone, Copy)]
 struct Calculator {
@@ -21,8 +22,10 @@ struct Calculator {
 
 const PLAIN: Calculator = Calculator {
     name: "plain",
-    calculate: plain::calculate,
-    edit: plain::edit,
+    calculate: |log, pile, sand, table| plain::calculate(log, pile, record_of(sand), table),
+    edit: |log, pile, sand, table, kind, k, x, row| {
+        plain::edit(log, pile, record_of(sand), table, kind, k, x, row)
+    },
 };
 
 const LIBRARY: Calculator = Calculator {
@@ -30,6 +33,16 @@ const LIBRARY: Calculator = Calculator {
     calculate: psamathyr_door::calculate,
     edit: psamathyr_door::edit,
 };
+
+/// The record of a sand tip as the plain calculator takes it.
+#[inline(always)]
+fn record_of(sand: Sand) -> Option<plain::Sand> {
+    (sand.given != 0).then(|| plain::Sand {
+        angle: sand.angle.into(),
+        weight_below: sand.weight_below.into(),
+        weight_above: sand.weight_above.into(),
+    })
+}
 
 /// Thickness, kind, stored index, saturation.
 type Row = (u64, u64, u64, u64);
@@ -48,9 +61,13 @@ fn log_of(rows: &[Row]) -> [u8; LOG] {
     log
 }
 
+fn circle_of(diameter: u64, method: u64, head: u64, tip: u64) -> [u8; PILE] {
+    (1 << 62 | diameter << 50 | method << 36 | head << 20 | tip << 4).to_be_bytes()
+}
+
 /// A circle of 600 mm.
 fn pile_of(method: u64, head: u64, tip: u64) -> [u8; PILE] {
-    (1 << 62 | 600 << 50 | method << 36 | head << 20 | tip << 4).to_be_bytes()
+    circle_of(600, method, head, tip)
 }
 
 struct Scene {
@@ -141,16 +158,27 @@ impl Desk {
     /// The next call of a scene: a calculation, or a boundary drawn one millimetre on.
     #[inline(always)]
     fn call(&mut self, scene: &Scene, by: &Calculator) -> Answer {
+        // Every scene has its tip in clay.
+        let none = Sand::default();
         let (k, soil) = match scene.dragged {
             Some(dragged) => dragged,
-            None => return (by.calculate)(&self.log, &scene.pile, &mut self.table),
+            None => return (by.calculate)(&self.log, &scene.pile, none, &mut self.table),
         };
         // Up and down by 100 mm, starting at the thickness as it is; never deeper.
         let phase = self.step % 200;
         let less = if phase < 100 { phase + 1 } else { 199 - phase };
         self.step += 1;
         let row = row_bytes((soil.0 - less, soil.1, soil.2, soil.3));
-        (by.edit)(&mut self.log, &scene.pile, &mut self.table, 1, k, 0, &row)
+        (by.edit)(
+            &mut self.log,
+            &scene.pile,
+            none,
+            &mut self.table,
+            1,
+            k,
+            0,
+            &row,
+        )
     }
 }
 
@@ -281,7 +309,7 @@ fn main() -> ExitCode {
         return count(&words[1..]);
     }
     let scenes = scenes();
-    if !scenes.iter().all(same) {
+    if !scenes.iter().all(same) || !sands::same() {
         return ExitCode::FAILURE;
     }
     println!("library and plain calculator give the same");
@@ -299,6 +327,7 @@ mod tests {
     #[test]
     fn scenes_are_accepted() {
         assert!(scenes().iter().all(same));
+        assert!(sands::same());
     }
 
     fn five(answer: &Answer) -> [u64; 5] {
@@ -315,7 +344,7 @@ mod tests {
     fn known_numbers() {
         let pile = pile_of(1, 1_000, 10_000);
         let mut table = [9; TABLE];
-        let answer = plain::calculate(&log_of(&[(20_000, 6, 130, 95)]), &pile, &mut table);
+        let answer = plain::calculate(&log_of(&[(20_000, 6, 130, 95)]), &pile, None, &mut table);
         let numbers = [212_100, 268_605, 399_798, 668_403, 319_838];
         assert_eq!(five(&answer), numbers);
         assert_eq!(table[..7], [0x03, 0xE8, 0xFA, 0x05, 0xB8, 0xD8, 0x06]);
@@ -329,9 +358,9 @@ mod tests {
         pile.extend(grade.to_be_bytes());
         let mut log = log_of(&[row]);
         let mut table = [9; TABLE];
-        let answer = plain::calculate(&log, &pile, &mut table);
+        let answer = plain::calculate(&log, &pile, None, &mut table);
         let row = row_bytes(row);
-        let again = plain::edit(&mut log, &pile, &mut table, 1, 1, 0, &row);
+        let again = plain::edit(&mut log, &pile, None, &mut table, 1, 1, 0, &row);
         assert_eq!(five(&again), five(&answer));
         assert_eq!(again.kept as usize, used(&table));
         (answer.refusal, five(&answer))
@@ -361,8 +390,89 @@ mod tests {
         assert_eq!(graded(45_000, 1_000, 40_000, i16::MAX), (7, [0; 5]));
         for length in [0, 7, 9, 11] {
             let mut table = [9; TABLE];
-            let answer = plain::calculate(&log_of(&[]), &vec![0; length], &mut table);
+            let answer = plain::calculate(&log_of(&[]), &vec![0; length], None, &mut table);
             assert_eq!((answer.refusal, table), (1, [9; TABLE]));
         }
+    }
+
+    /// A pile of method 1 from 1,000 in so much sand: the refusal and the five numbers, the same after an edit.
+    fn in_sand(
+        kind: u64,
+        (diameter, tip): (u64, u64),
+        record: Option<[u64; 3]>,
+    ) -> (u32, [u64; 5]) {
+        let row = (25_000, kind, 100, 80);
+        let pile = circle_of(diameter, 1, 1_000, tip);
+        let sand = record.map(|[angle, weight_below, weight_above]| plain::Sand {
+            angle,
+            weight_below,
+            weight_above,
+        });
+        let mut log = log_of(&[row]);
+        let mut table = [9; TABLE];
+        let answer = plain::calculate(&log, &pile, sand, &mut table);
+        let row = row_bytes(row);
+        let again = plain::edit(&mut log, &pile, sand, &mut table, 1, 1, 0, &row);
+        assert_eq!(five(&again), five(&answer));
+        assert_eq!(again.kept as usize, used(&table));
+        (answer.refusal, five(&answer))
+    }
+
+    #[test]
+    fn sand_numbers() {
+        for (kind, pile, record, numbers) in [
+            (
+                1,
+                (600, 10_000),
+                [3_000, 10_000, 18_000],
+                [345_975, 220_598, 652_146, 872_744, 521_716],
+            ),
+            (
+                2,
+                (1_000, 15_000),
+                [3_200, 10_000, 19_000],
+                [417_200, 1_326_870, 1_310_671, 2_637_541, 1_048_536],
+            ),
+            (
+                3,
+                (400, 10_000),
+                [3_333, 10_000, 18_000],
+                [180_425, 152_987, 226_728, 379_715, 181_382],
+            ),
+            (
+                2,
+                (1_200, 8_000),
+                [2_556, 9_000, 17_000],
+                [184_450, 524_822, 695_359, 1_220_181, 556_287],
+            ),
+            (
+                1,
+                (600, 10_000),
+                [4_333, 30_000, 30_000],
+                [345_975, 1_130_972, 652_146, 1_783_118, 521_716],
+            ),
+        ] {
+            assert_eq!(in_sand(kind, pile, Some(record)), (0, numbers));
+        }
+    }
+
+    #[test]
+    fn sand_refusals() {
+        let pile = (600, 10_000);
+        assert_eq!(in_sand(2, pile, None), (9, [0; 5]));
+        assert_eq!(in_sand(2, pile, Some([0; 3])), (17, [0; 5]));
+        assert_eq!(in_sand(2, (2_000, 2_999), Some([0; 3])), (7, [0; 5]));
+        assert_eq!(in_sand(2, (2_000, 3_000), Some([0; 3])), (17, [0; 5]));
+        assert_eq!(in_sand(2, (2_001, 3_000), Some([0; 3])), (5, [0; 5]));
+        for record in [
+            [2_555, 1, 1],
+            [4_334, 1, 1],
+            [3_000, 0, 1],
+            [3_000, 1, 30_001],
+        ] {
+            assert_eq!(in_sand(2, pile, Some(record)), (17, [0; 5]));
+        }
+        assert_eq!(in_sand(2, (2_000, 8_000), Some([3_000, 1, 1])).0, 0);
+        assert_eq!(in_sand(2, (2_000, 7_999), Some([3_000, 1, 1])).0, 17);
     }
 }

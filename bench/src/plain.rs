@@ -3,12 +3,14 @@
 #![forbid(unsafe_code)]
 
 mod ground;
+mod sand;
 mod tables;
 
-use ground::{change, fresh, ground_of, index_of, kind_of, saturation_of, Ground};
+use ground::{change, fresh, ground_of, index_of, is_sand, kind_of, saturation_of, Ground};
 use psamathyr_door::{
     Answer, GRADED_PILE_BYTES, LOG_BYTES as LOG, PILE_BYTES, TABLE_BYTES as TABLE,
 };
+pub use sand::Sand;
 use tables::{friction, tip_resistance, FACTORS};
 
 /// A refusal's answer.
@@ -26,7 +28,7 @@ const fn refused(refusal: u32, row: u32, field: u32) -> Answer {
     }
 }
 
-pub fn calculate(log: &[u8], pile: &[u8], table: &mut [u8]) -> Answer {
+pub fn calculate(log: &[u8], pile: &[u8], sand: Option<Sand>, table: &mut [u8]) -> Answer {
     let (log, pile, table) = match (
         <&[u8; LOG]>::try_from(log),
         record_of(pile),
@@ -39,15 +41,17 @@ pub fn calculate(log: &[u8], pile: &[u8], table: &mut [u8]) -> Answer {
     if let Err(no) = ground_of(log, &mut ground) {
         return no;
     }
-    match work_out::<false>(&ground, pile, table) {
+    match work_out::<false>(&ground, pile, sand.as_ref(), table) {
         Ok(answer) => answer,
         Err(number) => emptied(table, number),
     }
 }
 
+#[allow(clippy::too_many_arguments)] // those of the library
 pub fn edit(
     log: &mut [u8],
     pile: &[u8],
+    sand: Option<Sand>,
     table: &mut [u8],
     kind: u32,
     k: u32,
@@ -74,7 +78,7 @@ pub fn edit(
     if let Err(no) = change(log, &mut ground, kind, k, x, &row) {
         return no;
     }
-    match work_out::<true>(&ground, pile, table) {
+    match work_out::<true>(&ground, pile, sand.as_ref(), table) {
         Ok(answer) => answer,
         Err(number) => emptied(table, number),
     }
@@ -127,24 +131,53 @@ impl Pile {
     fn tip_read(&self) -> u32 {
         (self.tip as i32 + self.deeper()) as u32
     }
+
+    /// How far the tip is below ground or, where the site is cut, below the cut; past check 7.
+    #[inline(always)]
+    fn height(&self) -> u32 {
+        (self.tip as i32 + self.grade.min(0)) as u32
+    }
 }
 
-/// Checks 5 to 12, the slices and the numbers; a refusal is its number
+/// Checks 5 to 12 and 17, the slices and the numbers; a refusal is its number
 /// plus 256 times its field. By itself it is quicker than within its callers.
 #[inline(never)]
 fn work_out<const KEPT: bool>(
     ground: &Ground,
     pile: Record,
+    sand: Option<&Sand>,
     table: &mut [u8; TABLE],
 ) -> Result<Answer, u32> {
     let pile = pile_of(pile)?;
-    let below = tip_soil(ground, &pile)?;
+    let below = tip_soil(ground, &pile, sand)?;
+    if let (true, Some(sand)) = (is_sand(below), sand) {
+        return Ok(in_sand::<KEPT>(ground, &pile, below, sand, table));
+    }
     let (sum, kept) = match pile.deeper() {
         0 => shaft::<KEPT>(ground, &pile, table, 0),
         deeper => graded_shaft::<KEPT>(ground, &pile, table, deeper),
     };
     let resistance = tip_resistance(pile.tip_read(), index_of(below));
     Ok(numbers(&pile, below, sum / 2_000_000, resistance, kept))
+}
+
+/// The same for a sand tip that passes the checks; by itself, so that clay tips do not wait for it.
+#[inline(never)]
+fn in_sand<const KEPT: bool>(
+    ground: &Ground,
+    pile: &Pile,
+    below: u32,
+    sand: &Sand,
+    table: &mut [u8; TABLE],
+) -> Answer {
+    let (sum, kept) = graded_shaft::<KEPT>(ground, pile, table, pile.deeper());
+    let resistance = sand.resistance(
+        kind_of(below),
+        pile.height().into(),
+        pile.a.into(),
+        pile.tip_read().into(),
+    );
+    numbers(pile, below, sum / 2_000_000, resistance, kept)
 }
 
 /// Checks 5 and 6.
@@ -190,16 +223,41 @@ fn depths_fit(pile: &Pile) -> bool {
         && pile.tip_read() <= 40_000
 }
 
-/// Checks 7 to 12; gives the soil of the millimetre just below the tip.
+/// Checks 7 to 12 and 17; gives the soil of the millimetre just below the tip.
 #[inline(always)]
-fn tip_soil(ground: &Ground, pile: &Pile) -> Result<u32, u32> {
+fn tip_soil(ground: &Ground, pile: &Pile, sand: Option<&Sand>) -> Result<u32, u32> {
     if !depths_fit(pile) {
         return Err(7);
     }
-    let (head, tip) = (pile.head, pile.tip);
-    if ground.depth < tip + 5_000 {
+    if ground.depth < pile.tip + 5_000 {
         return Err(8);
     }
+    let (below, top) = tip_stratum(ground, pile.tip);
+    let sandy = is_sand(below);
+    if sandy && (sand.is_none() || pile.section == 2) {
+        return Err(9);
+    }
+    let seat = pile.tip - top.max(pile.head);
+    if seat < 2_000 || seat < pile.a.max(pile.b) {
+        return Err(10);
+    }
+    if let (true, Some(sand)) = (sandy, sand) {
+        let fits = sand.fits(pile.height().into(), pile.a.into());
+        return if fits { Ok(below) } else { Err(17) };
+    }
+    let index = index_of(below);
+    if index > 160 {
+        return Err(11);
+    }
+    if index > 140 && pile.tip_read() > 20_000 {
+        return Err(12);
+    }
+    Ok(below)
+}
+
+/// The soil of the millimetre just below the tip, and the top of its stratum.
+#[inline(always)]
+fn tip_stratum(ground: &Ground, tip: u32) -> (u32, u32) {
     let mut seat_top = 0;
     let mut bottom = 0;
     let mut below = ground.soil[0];
@@ -214,21 +272,7 @@ fn tip_soil(ground: &Ground, pile: &Pile) -> Result<u32, u32> {
             break;
         }
     }
-    if kind_of(below) <= 3 {
-        return Err(9);
-    }
-    let seat = tip - seat_top.max(head);
-    if seat < 2_000 || seat < pile.a.max(pile.b) {
-        return Err(10);
-    }
-    let index = index_of(below);
-    if index > 160 {
-        return Err(11);
-    }
-    if index > 140 && pile.tip_read() > 20_000 {
-        return Err(12);
-    }
-    Ok(below)
+    (below, seat_top)
 }
 
 /// Which column friction is read from, and the tenths towards the next.
@@ -337,7 +381,7 @@ fn numbers(pile: &Pile, below: u32, line: u64, resistance: u64, kept: usize) -> 
         line,
         tip,
         shaft,
-        capacity: if saturation_of(below) < 90 {
+        capacity: if saturation_of(below) < 90 && !is_sand(below) {
             both * 8 / 10
         } else {
             both

@@ -1,12 +1,19 @@
 /* Drags the boundary between two rows of a log, as a finger would, and prints the sheet at the end.
  *
  * 4,000 mm of fine sand over 16,000 mm of clay; the boundary is dragged down to 6,000 mm in steps of 500 mm. Each step replaces both
- * rows, the lower one first so that the log never passes 60,000 mm, and says how many slices were kept.
+ * rows, the lower one first so that the log never passes 60,000 mm, and says how many slices were kept. Dragged on to 16,000 mm it leaves
+ * the tip in sand, which is refused until the sand's record comes along.
  */
 #include "psamathyr.h"
 
 #include <stdio.h>
 #include <string.h>
+
+/* the two rows, and what is lent */
+typedef struct {
+    psamathyr_row sand, clay;
+    uint8_t log[PSAMATHYR_LOG_BYTES], pile[PSAMATHYR_PILE_BYTES], table[PSAMATHYR_TABLE_BYTES];
+} desk;
 
 static void packed_row(psamathyr_row fields, uint8_t bytes[PSAMATHYR_ROW_BYTES])
 {
@@ -36,21 +43,17 @@ static void print_sheet(psamathyr_answer a, const uint8_t table[PSAMATHYR_TABLE_
            (unsigned long long)a.capacity, (unsigned long long)a.uplift);
 }
 
-int main(void)
+/* 0, or the refusal of a packing */
+static uint32_t pack(desk *d)
 {
-    psamathyr_row sand = { 4000, 2, 100, 95, 0 };
-    psamathyr_row clay = { 16000, 6, 130, 95, 0 };
-    uint8_t log[PSAMATHYR_LOG_BYTES] = { 0 }, pile[PSAMATHYR_PILE_BYTES] = { 0 }, table[PSAMATHYR_TABLE_BYTES] = { 0 };
-    uint8_t row[PSAMATHYR_ROW_BYTES];
-
     psamathyr_log rows;
     memset(&rows, 0, sizeof rows);
     rows.count = 2;
-    rows.rows[0] = sand;
-    rows.rows[1] = clay;
-    psamathyr_answer a = psamathyr_pack_log(rows, log, sizeof log);
+    rows.rows[0] = d->sand;
+    rows.rows[1] = d->clay;
+    psamathyr_answer a = psamathyr_pack_log(rows, d->log, sizeof d->log);
     if (a.refusal != 0)
-        return 1;
+        return a.refusal;
 
     psamathyr_pile p;
     memset(&p, 0, sizeof p);
@@ -59,20 +62,44 @@ int main(void)
     p.method = 1;
     p.head = 1000;
     p.tip = 10000;
-    a = psamathyr_pack_pile(p, pile, sizeof pile);
-    if (a.refusal != 0)
+    return psamathyr_pack_pile(p, d->pile, sizeof d->pile).refusal;
+}
+
+static psamathyr_answer replace(desk *d, psamathyr_sand record, uint32_t k, psamathyr_row fields)
+{
+    uint8_t row[PSAMATHYR_ROW_BYTES];
+    packed_row(fields, row);
+    return psamathyr_edit(d->log, sizeof d->log, d->pile, sizeof d->pile, record, d->table, sizeof d->table, PSAMATHYR_REPLACE, k, 0, row,
+                          sizeof row);
+}
+
+static psamathyr_answer drag(desk *d, psamathyr_sand record, uint16_t by)
+{
+    d->clay.thickness -= by;
+    replace(d, record, 2, d->clay);
+    d->sand.thickness += by;
+    psamathyr_answer a = replace(d, record, 1, d->sand);
+    printf("boundary %u kept %u capacity %llu\n", d->sand.thickness, a.kept, (unsigned long long)a.capacity);
+    return a;
+}
+
+int main(void)
+{
+    desk d = { .sand = { 4000, 2, 100, 95, 0 }, .clay = { 16000, 6, 130, 95, 0 } };
+    psamathyr_sand none = { 0, 0, 0, 0 };
+    /* 30 degrees, 10,000 N/m3 below the tip and 18,000 above it */
+    psamathyr_sand record = { 1, 3000, 10000, 18000 };
+    if (pack(&d) != 0)
         return 1;
 
-    a = psamathyr_calculate(log, sizeof log, pile, sizeof pile, table, sizeof table);
-    for (int step = 0; step < 4; step++) {
-        clay.thickness -= 500;
-        packed_row(clay, row);
-        a = psamathyr_edit(log, sizeof log, pile, sizeof pile, table, sizeof table, PSAMATHYR_REPLACE, 2, 0, row, sizeof row);
-        sand.thickness += 500;
-        packed_row(sand, row);
-        a = psamathyr_edit(log, sizeof log, pile, sizeof pile, table, sizeof table, PSAMATHYR_REPLACE, 1, 0, row, sizeof row);
-        printf("boundary %u kept %u capacity %llu\n", sand.thickness, a.kept, (unsigned long long)a.capacity);
-    }
-    print_sheet(a, table);
+    psamathyr_answer a = psamathyr_calculate(d.log, sizeof d.log, d.pile, sizeof d.pile, none, d.table, sizeof d.table);
+    for (int step = 0; step < 4; step++)
+        a = drag(&d, none, 500);
+    print_sheet(a, d.table);
+
+    print_sheet(drag(&d, none, 10000), d.table);
+    a = psamathyr_calculate(d.log, sizeof d.log, d.pile, sizeof d.pile, record, d.table, sizeof d.table);
+    print_sheet(a, d.table);
+    drag(&d, record, 500);
     return 0;
 }

@@ -45,6 +45,12 @@ OFFSET(psamathyr_pile, tip, 22);
 OFFSET(psamathyr_pile, zero, 24);
 OFFSET(psamathyr_pile, grade, 26);
 
+SIZE(psamathyr_sand, 16);
+OFFSET(psamathyr_sand, given, 0);
+OFFSET(psamathyr_sand, angle, 4);
+OFFSET(psamathyr_sand, weight_below, 8);
+OFFSET(psamathyr_sand, weight_above, 12);
+
 SIZE(psamathyr_slice, 16);
 OFFSET(psamathyr_slice, refusal, 0);
 OFFSET(psamathyr_slice, top, 4);

@@ -1,11 +1,12 @@
 // The door of psamathyr.wasm for a page or Node: the seven functions over Uint8Arrays, which are copied in and, where the door writes to
-// them, copied back. A pile record is lent as 8 bytes or, with the grade of its site, as 10. In a page:
+// them, copied back. A pile record is lent as 8 bytes or, with the grade of its site, as 10. The record of a sand tip is
+// `{ angle, weightBelow, weightAbove }` in hundredths of a degree and N/m³, or null for none. In a page:
 // `await open(await (await fetch("psamathyr.wasm")).arrayBuffer())`; in Node: `await open(readFileSync(path))`.
 
 const PAGE = 65536;
 
-// Bytes of each reply, as include/psamathyr.h lays them out.
-const SIZES = { answer: 56, log: 400, pile: 28, slice: 16 };
+// Bytes of each struct, as include/psamathyr.h lays them out.
+const SIZES = { answer: 56, log: 400, pile: 28, sand: 16, slice: 16 };
 
 export async function open(bytes) {
     const { instance } = await WebAssembly.instantiate(bytes, {});
@@ -44,16 +45,16 @@ class Door {
         piece.set(new Uint8Array(this.memory.buffer, place, piece.length));
     }
 
-    calculate(log, pile, table) {
-        const [reply, l, p, t] = this.#lend(SIZES.answer, [log, pile, table]);
-        this.exports.psamathyr_calculate(reply, l, BigInt(log.length), p, BigInt(pile.length), t, BigInt(table.length));
+    calculate(log, pile, sand, table) {
+        const [reply, l, p, s, t] = this.#lend(SIZES.answer, [log, pile, sandBytes(sand), table]);
+        this.exports.psamathyr_calculate(reply, l, BigInt(log.length), p, BigInt(pile.length), s, t, BigInt(table.length));
         this.#back(table, t);
         return answerOf(this.#reply(SIZES.answer));
     }
 
-    edit(log, pile, table, kind, k, x, row) {
-        const [reply, l, p, t, r] = this.#lend(SIZES.answer, [log, pile, table, row]);
-        this.exports.psamathyr_edit(reply, l, BigInt(log.length), p, BigInt(pile.length), t, BigInt(table.length), kind, k, x, r, BigInt(row.length));
+    edit(log, pile, sand, table, kind, k, x, row) {
+        const [reply, l, p, s, t, r] = this.#lend(SIZES.answer, [log, pile, sandBytes(sand), table, row]);
+        this.exports.psamathyr_edit(reply, l, BigInt(log.length), p, BigInt(pile.length), s, t, BigInt(table.length), kind, k, x, r, BigInt(row.length));
         this.#back(log, l);
         this.#back(table, t);
         return answerOf(this.#reply(SIZES.answer));
@@ -154,6 +155,14 @@ function pileBytes(fields) {
     view.setUint16(22, fields.tip, true);
     view.setUint8(24, fields.zero);
     view.setInt16(26, fields.grade ?? 0, true);
+    return new Uint8Array(view.buffer);
+}
+
+// A record that says `given` itself (replay.mjs) goes over with that number.
+function sandBytes(sand) {
+    const view = new DataView(new ArrayBuffer(SIZES.sand));
+    const fields = sand ? [sand.given ?? 1, sand.angle, sand.weightBelow, sand.weightAbove] : [];
+    fields.forEach((value, i) => view.setUint32(4 * i, value, true));
     return new Uint8Array(view.buffer);
 }
 

@@ -87,6 +87,10 @@ class Reader {
         };
     }
 
+    async sand() {
+        return { given: await this.number(), angle: await this.number(), weightBelow: await this.number(), weightAbove: await this.number() };
+    }
+
     async slice() {
         const refusal = await this.number();
         const part = await this.part(9);
@@ -109,13 +113,13 @@ function compare(name, got, due) {
 // Each function: its arguments are read, the call is made, and what the record has of it is read.
 const calls = {
     1: async read => {
-        const [log, pile, table] = [await read.piece(), await read.piece(), await read.piece()];
-        compare("calculate", [door.calculate(log, pile, table), table], [await read.answer(), await read.piece()]);
+        const [log, pile, sand, table] = [await read.piece(), await read.piece(), await read.sand(), await read.piece()];
+        compare("calculate", [door.calculate(log, pile, sand, table), table], [await read.answer(), await read.piece()]);
     },
     2: async read => {
-        const [log, pile, table] = [await read.piece(), await read.piece(), await read.piece()];
+        const [log, pile, sand, table] = [await read.piece(), await read.piece(), await read.sand(), await read.piece()];
         const [kind, k, x, row] = [await read.number(), await read.number(), await read.number(), await read.piece()];
-        compare("edit", [door.edit(log, pile, table, kind, k, x, row), log, table], [await read.answer(), await read.piece(), await read.piece()]);
+        compare("edit", [door.edit(log, pile, sand, table, kind, k, x, row), log, table], [await read.answer(), await read.piece(), await read.piece()]);
     },
     3: async read => compare("read_log", [door.readLog(await read.piece())], [await read.log()]),
     4: async read => {

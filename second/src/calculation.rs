@@ -5,15 +5,16 @@
 use crate::fraction::Fraction;
 use crate::ground::{millimetres, pieces, strata, Piece, Soil, Stratum};
 use crate::records::{check_pile, depth, is_pile_length, open_log, pile_fields, slice_bytes};
+use crate::sand::{self, Sand};
 use crate::{tables, Answer, Pile, Refusal, Row, Slice, SLICE, SLICES, TABLE};
 
-/// Works out a pile in a log and fills the table.
-pub fn calculate(log: &[u8], pile: &[u8], table: &mut [u8]) -> Answer {
+/// Works out a pile in a log, with the record of a sand tip if one is brought, and fills the table.
+pub fn calculate(log: &[u8], pile: &[u8], sand: Option<Sand>, table: &mut [u8]) -> Answer {
     let rows = match lent(log, pile, table) {
         Ok(rows) => rows,
         Err(refusal) => return refusal.answer(),
     };
-    let (answer, filled) = work_out(&rows, pile);
+    let (answer, filled) = work_out(&rows, pile, sand);
     table.copy_from_slice(&filled);
     answer
 }
@@ -42,8 +43,8 @@ pub(crate) fn lent_with_row(
 }
 
 /// The answer and the whole table for rows that passed the log checks.
-pub(crate) fn work_out(rows: &[Row], pile: &[u8]) -> (Answer, Vec<u8>) {
-    match numbers(rows, &pile_fields(pile)) {
+pub(crate) fn work_out(rows: &[Row], pile: &[u8], sand: Option<Sand>) -> (Answer, Vec<u8>) {
+    match numbers(rows, &pile_fields(pile), sand) {
         Ok((answer, slices)) => {
             let mut table = Vec::with_capacity(TABLE);
             for slice in &slices {
@@ -57,20 +58,20 @@ pub(crate) fn work_out(rows: &[Row], pile: &[u8]) -> (Answer, Vec<u8>) {
     }
 }
 
-/// Checks 5 to 12, then the numbers.
-fn numbers(rows: &[Row], pile: &Pile) -> Result<(Answer, Vec<Slice>), Refusal> {
+/// Checks 5 to 12 and 17, then the numbers.
+fn numbers(rows: &[Row], pile: &Pile, sand: Option<Sand>) -> Result<(Answer, Vec<Slice>), Refusal> {
     check_pile(pile)?;
     let ground = ground(rows, pile)?;
     let below = ground[usize::from(pile.tip)];
-    if below.is_sand() {
-        return Err(Refusal::plain(9));
-    }
+    let needed = needed(sand, below, pile)?;
     let strata = strata(&ground);
     check_seat(&strata, pile)?;
-    let kilopascals = tip_resistance(below, pile)?;
+    let resistance = match needed {
+        Some(record) => sand_resistance(&record, below, pile)?,
+        None => clay_resistance(below, pile)?,
+    };
     let slices = slices(&strata, pile);
 
-    let resistance = (kilopascals * Fraction::whole(1_000)).floor();
     let line = slices
         .iter()
         .map(share)
@@ -115,6 +116,17 @@ fn as_read(natural: Fraction, pile: &Pile) -> Fraction {
     }
 }
 
+/// Check 9: the record of a sand tip, which must be there and is good for circles only. A clay tip needs none, and does not look at it.
+fn needed(sand: Option<Sand>, below: Soil, pile: &Pile) -> Result<Option<Sand>, Refusal> {
+    if !below.is_sand() {
+        return Ok(None);
+    }
+    match sand {
+        Some(record) if pile.section == 1 => Ok(Some(record)),
+        _ => Err(Refusal::plain(9)),
+    }
+}
+
 /// Check 10: the tip stands deep enough in its stratum.
 fn check_seat(strata: &[Stratum], pile: &Pile) -> Result<(), Refusal> {
     let head = usize::from(pile.head);
@@ -132,14 +144,27 @@ fn check_seat(strata: &[Stratum], pile: &Pile) -> Result<(), Refusal> {
     Ok(())
 }
 
-/// Checks 11 and 12, then the tip resistance in kPa.
-fn tip_resistance(below: Soil, pile: &Pile) -> Result<Fraction, Refusal> {
+/// Check 17, then the tip resistance of sand in Pa: by the formula, at most the cap. The formula counts its depth from the cut level, also
+/// where the tables are read from natural ground; a fill adds nothing to it.
+fn sand_resistance(record: &Sand, below: Soil, pile: &Pile) -> Result<i128, Refusal> {
+    let cut = (-i32::from(pile.grade)).max(0) as u32;
+    let h = u32::from(pile.tip) - cut;
+    let d = u32::from(pile.a);
+    sand::check(record, h, d)?;
+    let read = as_read(metres(usize::from(pile.tip)), pile) * Fraction::whole(1_000);
+    let cap = sand::cap(below.kind(), read.exactly() as u32);
+    Ok(i128::from(sand::formula(record, h, d).resistance.min(cap)))
+}
+
+/// Checks 11 and 12, then the tip resistance of clay in Pa.
+fn clay_resistance(below: Soil, pile: &Pile) -> Result<i128, Refusal> {
     if below.index() > Fraction::new(60, 100) {
         return Err(Refusal::plain(11));
     }
-    tables::tip()
+    let kilopascals = tables::tip()
         .at(as_read(metres(usize::from(pile.tip)), pile), below.index())
-        .map_err(|tables::Dash| Refusal::plain(12))
+        .map_err(|tables::Dash| Refusal::plain(12))?;
+    Ok((kilopascals * Fraction::whole(1_000)).floor())
 }
 
 /// The slices of the shaft. No pile that passes the checks has more of them than a table has places: one that had would end the program.
@@ -166,7 +191,7 @@ fn answer(resistance: i128, line: i128, below: Soil, pile: &Pile) -> Answer {
     let (area, perimeter) = section(pile);
     let tip = (Fraction::whole(resistance) * area).floor();
     let shaft = (Fraction::whole(line) * perimeter).floor();
-    let soaked = if below.saturation() < 90 {
+    let soaked = if below.saturation() < 90 && !below.is_sand() {
         Fraction::new(8, 10)
     } else {
         Fraction::ONE

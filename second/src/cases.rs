@@ -1,8 +1,10 @@
-//! The known cases A to L with their printed numbers, and case A on graded sites.
+//! The known cases A to L with their printed numbers, case A on graded sites, and tips in sand.
 
 #![forbid(unsafe_code)]
 
-use crate::{pile_bytes, row_bytes, Pile, Row, GRADED_PILE, LOG};
+use crate::{pile_bytes, row_bytes, Pile, Row, Sand, GRADED_PILE, LOG};
+
+mod sands;
 
 /// What a case must give: its five numbers, or a refusal.
 #[derive(Clone, Copy, Debug, PartialEq, Eq)]
@@ -17,6 +19,7 @@ pub struct Case {
     pub name: &'static str,
     pub log: [u8; LOG],
     pub pile: Vec<u8>,
+    pub sand: Option<Sand>,
     pub known: Known,
     /// Tip resistance in kPa where it is printed.
     pub resistance: Option<u64>,
@@ -111,6 +114,7 @@ fn case(name: &'static str, rows: &[Row], pile: Pile, known: Known) -> Case {
         name,
         log: log_of(rows),
         pile: pile_bytes(&pile),
+        sand: None,
         known,
         resistance: None,
     }
@@ -136,7 +140,7 @@ impl Case {
 
 pub fn all() -> Vec<Case> {
     let printed = [a_to_d(), e_to_g(), h_to_j(), k_and_l()];
-    [printed.concat(), fills(), cuts()].concat()
+    [printed.concat(), fills(), cuts(), sands::all()].concat()
 }
 
 /// Clay alone: in one row and in many, softer, drier.

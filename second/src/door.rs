@@ -3,7 +3,7 @@
 #![forbid(unsafe_code)]
 
 use crate::record::Call;
-use crate::{Answer, Log, Pile, Row, Slice, ROWS};
+use crate::{Answer, Carried, Log, Pile, Row, Slice, ROWS};
 use psamathyr_door as door;
 
 impl From<door::Answer> for Answer {
@@ -46,9 +46,20 @@ impl From<Row> for door::Row {
     }
 }
 
-pub fn calculate(log: &[u8], pile: &[u8], table: &mut [u8]) -> Answer {
-    let call = Call::of(1).piece(log).piece(pile).piece(table);
-    let answer = door::calculate(log, pile, table).into();
+impl From<Carried> for door::Sand {
+    fn from(sand: Carried) -> door::Sand {
+        door::Sand {
+            given: sand.given,
+            angle: sand.angle,
+            weight_below: sand.weight_below,
+            weight_above: sand.weight_above,
+        }
+    }
+}
+
+pub fn calculate(log: &[u8], pile: &[u8], sand: Carried, table: &mut [u8]) -> Answer {
+    let call = Call::of(1).piece(log).piece(pile).sand(sand).piece(table);
+    let answer = door::calculate(log, pile, sand.into(), table).into();
     call.answer(&answer).piece(table).made();
     answer
 }
@@ -56,20 +67,20 @@ pub fn calculate(log: &[u8], pile: &[u8], table: &mut [u8]) -> Answer {
 pub fn edit(
     log: &mut [u8],
     pile: &[u8],
+    sand: Carried,
     table: &mut [u8],
-    kind: u32,
-    k: u32,
-    x: u32,
+    [kind, k, x]: [u32; 3],
     row: &[u8],
 ) -> Answer {
-    let call = edit_call(log, pile, table, [kind, k, x], row);
-    let answer = door::edit(log, pile, table, kind, k, x, row).into();
+    let call = edit_call([log, pile, table], sand, [kind, k, x], row);
+    let answer = door::edit(log, pile, sand.into(), table, kind, k, x, row).into();
     call.answer(&answer).piece(log).piece(table).made();
     answer
 }
 
-fn edit_call(log: &[u8], pile: &[u8], table: &[u8], numbers: [u32; 3], row: &[u8]) -> Call {
-    let pieces = Call::of(2).piece(log).piece(pile).piece(table);
+fn edit_call(lent: [&[u8]; 3], sand: Carried, numbers: [u32; 3], row: &[u8]) -> Call {
+    let [log, pile, table] = lent;
+    let pieces = Call::of(2).piece(log).piece(pile).sand(sand).piece(table);
     numbers.into_iter().fold(pieces, Call::number).piece(row)
 }
 
@@ -77,13 +88,12 @@ fn edit_call(log: &[u8], pile: &[u8], table: &[u8], numbers: [u32; 3], row: &[u8
 pub fn edit_without_row(
     log: &mut [u8],
     pile: &[u8],
+    sand: Carried,
     table: &mut [u8],
-    kind: u32,
-    k: u32,
-    x: u32,
+    [kind, k, x]: [u32; 3],
 ) -> Answer {
-    let call = edit_call(log, pile, table, [kind, k, x], &[]);
-    let answer = door::edit_without_row(log, pile, table, kind, k, x).into();
+    let call = edit_call([log, pile, table], sand, [kind, k, x], &[]);
+    let answer = door::edit_without_row(log, pile, sand.into(), table, kind, k, x).into();
     call.answer(&answer).piece(log).piece(table).made();
     answer
 }

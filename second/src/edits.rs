@@ -4,16 +4,15 @@
 
 use crate::calculation::{lent_with_row, work_out};
 use crate::records::{bad_field, depth, log_bytes, row_fields};
-use crate::{Answer, Refusal, Row, ROWS, SLICE};
+use crate::{Answer, Refusal, Row, Sand, ROWS, SLICE};
 
-/// Edits a log (1 replace, 2 insert, 3 remove, 4 split), works it out and fills the table.
+/// Edits a log (kind 1 replace, 2 insert, 3 remove, 4 split), works it out and fills the table.
 pub fn edit(
     log: &mut [u8],
     pile: &[u8],
+    sand: Option<Sand>,
     table: &mut [u8],
-    kind: u32,
-    k: u32,
-    x: u32,
+    [kind, k, x]: [u32; 3],
     row: &[u8],
 ) -> Answer {
     let brought = matches!(kind, 1 | 2).then_some(row);
@@ -23,7 +22,7 @@ pub fn edit(
         Ok(rows) => rows,
         Err(refusal) => return refusal.answer(),
     };
-    let (mut answer, filled) = work_out(&rows, pile);
+    let (mut answer, filled) = work_out(&rows, pile, sand);
     if answer.refusal == 0 {
         answer.kept = kept(table, &filled);
     }

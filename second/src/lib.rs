@@ -12,6 +12,7 @@ mod fraction;
 mod ground;
 pub mod printed;
 mod records;
+pub mod sand;
 mod tables;
 
 #[cfg(feature = "door")]
@@ -28,6 +29,7 @@ pub use records::{
     pack_log, pack_pile, pile_bytes, read_log, read_pile, read_slice, row_bytes, row_fields,
     slice_bytes,
 };
+pub use sand::{Carried, Sand};
 
 /// Length of a log in bytes.
 pub const LOG: usize = 321;

@@ -14,11 +14,13 @@ mod compare {
     pub mod makers;
     pub mod meter;
     pub mod records;
+    pub mod sand_marks;
+    pub mod sands;
     pub mod seeded;
 }
 
 use compare::meter::Meter;
-use compare::{known, logs, records, seeded};
+use compare::{known, logs, records, sand_marks, seeded};
 use second::record;
 use std::process::ExitCode;
 
@@ -119,6 +121,9 @@ fn run(asked: &Asked) -> bool {
         known::graded_marks(&mut meter);
         known::known_cases(&mut meter);
         known::fullest(&mut meter);
+        sand_marks::cells(&mut meter);
+        sand_marks::around(&mut meter);
+        sand_marks::limits(&mut meter);
         logs::logs(&mut meter, seed, 20_000 / part);
         records::piles(&mut meter, seed, 20_000 / part);
         records::slices(&mut meter, seed, 2_000 / part);

@@ -1,10 +1,11 @@
 //! Calls of the library written down as they are made, with what was lent, what was replied and what was left: for a program that makes
 //! them again with the library of another machine. A call is a byte that names it, then its parts in the order of the door's arguments; a
-//! piece is its length and its bytes, a number four or eight bytes, the lowest first.
+//! piece is its length and its bytes, a number four or eight bytes, the lowest first. So calls 1 and 2 have the four numbers of the sand
+//! record (given, angle, weight below, weight above) straight after the piece of the pile and before that of the table.
 
 #![forbid(unsafe_code)]
 
-use crate::{Answer, Log, Pile, Slice};
+use crate::{Answer, Carried, Log, Pile, Slice};
 use std::cell::RefCell;
 use std::io::Write;
 
@@ -57,6 +58,13 @@ impl Call {
     pub fn piece(self, piece: &[u8]) -> Call {
         let length = u32::try_from(piece.len()).expect("a lent piece is short");
         self.number(length).put(piece)
+    }
+
+    pub fn sand(self, sand: Carried) -> Call {
+        self.number(sand.given)
+            .number(sand.angle)
+            .number(sand.weight_below)
+            .number(sand.weight_above)
     }
 
     pub fn answer(self, answer: &Answer) -> Call {

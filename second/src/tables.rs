@@ -1,4 +1,4 @@
-//! Both tables, column by column as text, read when first needed.
+//! The tables of friction and of tips in clay, column by column as text, and how a table is read; each is read when first needed.
 
 #![forbid(unsafe_code)]
 
@@ -31,10 +31,12 @@ m    3   5    7    10   12   15   18   20   30   40
 ";
 
 pub(crate) struct Table {
-    depths: Vec<Fraction>,
-    indexes: Vec<Fraction>,
-    /// By index, then by depth; a dash is none.
-    columns: Vec<Vec<Option<Fraction>>>,
+    /// The marks of the first line: depths, mostly.
+    heads: Vec<Fraction>,
+    /// The mark that each other line begins with: an index, mostly.
+    starts: Vec<Fraction>,
+    /// By line, then by mark of the first line; a dash is none.
+    lines: Vec<Vec<Option<Fraction>>>,
 }
 
 /// A dash was met with a weight above zero.
@@ -42,51 +44,56 @@ pub(crate) struct Table {
 pub(crate) struct Dash;
 
 pub(crate) fn friction() -> &'static Table {
-    thread_local! { static READ: &'static Table = Box::leak(Box::new(Table::read(FRICTION))); }
+    thread_local! { static READ: &'static Table = Table::kept(FRICTION); }
     READ.with(|table| *table)
 }
 
 pub(crate) fn tip() -> &'static Table {
-    thread_local! { static READ: &'static Table = Box::leak(Box::new(Table::read(TIP))); }
+    thread_local! { static READ: &'static Table = Table::kept(TIP); }
     READ.with(|table| *table)
 }
 
 impl Table {
+    /// Read once, and kept as long as the program runs.
+    pub(crate) fn kept(text: &str) -> &'static Table {
+        Box::leak(Box::new(Table::read(text)))
+    }
+
     fn read(text: &str) -> Table {
-        let mut lines = text.lines().filter(|line| !line.trim().is_empty());
-        let head = lines.next().expect("a line of depths");
-        let depths: Vec<Fraction> = head
+        let mut text = text.lines().filter(|line| !line.trim().is_empty());
+        let first = text.next().expect("a first line");
+        let heads: Vec<Fraction> = first
             .split_whitespace()
             .skip(1)
             .map(Fraction::decimal)
             .collect();
-        let mut indexes = Vec::new();
-        let mut columns = Vec::new();
-        for line in lines {
+        let mut starts = Vec::new();
+        let mut lines = Vec::new();
+        for line in text {
             let mut words = line.split_whitespace();
-            indexes.push(Fraction::decimal(words.next().expect("an index")));
-            let column: Vec<Option<Fraction>> = words
+            starts.push(Fraction::decimal(words.next().expect("a mark")));
+            let cells: Vec<Option<Fraction>> = words
                 .map(|word| (word != "-").then(|| Fraction::decimal(word)))
                 .collect();
-            assert_eq!(column.len(), depths.len());
-            columns.push(column);
+            assert_eq!(cells.len(), heads.len());
+            lines.push(cells);
         }
         Table {
-            depths,
-            indexes,
-            columns,
+            heads,
+            starts,
+            lines,
         }
     }
 
-    /// The value at a depth in m and an index, by straight lines both ways;
-    /// outside the table its edge counts.
-    pub(crate) fn at(&self, depth: Fraction, index: Fraction) -> Result<Fraction, Dash> {
+    /// The value at a place along the first line and one among the starts of the others (a depth in m and an index, mostly), by straight
+    /// lines both ways; outside the table its edge counts.
+    pub(crate) fn at(&self, along: Fraction, down: Fraction) -> Result<Fraction, Dash> {
         let mut sum = Fraction::ZERO;
-        for (column, across) in weights(&self.indexes, index) {
-            for (row, along) in weights(&self.depths, depth) {
-                let weight = across * along;
+        for (line, share) in weights(&self.starts, down) {
+            for (place, part) in weights(&self.heads, along) {
+                let weight = share * part;
                 if weight > Fraction::ZERO {
-                    let cell = self.columns[column][row].ok_or(Dash)?;
+                    let cell = self.lines[line][place].ok_or(Dash)?;
                     sum = sum + weight * cell;
                 }
             }
@@ -122,16 +129,16 @@ mod tests {
             .map(|r| printed::words(r)[0])
             .map(Fraction::decimal)
             .collect();
-        assert_eq!(table.depths, depths);
+        assert_eq!(table.heads, depths);
         let indexes: Vec<Fraction> = printed::words(heads)[1..]
             .iter()
             .map(|w| Fraction::decimal(w))
             .collect();
-        assert_eq!(table.indexes, indexes);
+        assert_eq!(table.starts, indexes);
         for (place, row) in rows.iter().enumerate() {
             for (column, word) in printed::words(row)[1..].iter().enumerate() {
                 let cell = (*word != "-").then(|| Fraction::decimal(word));
-                assert_eq!(table.columns[column][place], cell);
+                assert_eq!(table.lines[column][place], cell);
                 assert_eq!(table.at(depths[place], indexes[column]), cell.ok_or(Dash));
                 cells += 1;
             }

@@ -7,6 +7,7 @@ use crate::*;
 
 mod edits;
 mod grades;
+mod sands;
 
 fn row(thickness: u16, kind: u8, index: u8, saturation: u8) -> Row {
     Row {
@@ -50,8 +51,12 @@ const DEEP_CLAY: [Row; 1] = [Row {
 }];
 
 fn run(rows: &[Row], pile: Pile) -> (Answer, Vec<u8>) {
+    run_with(rows, pile, None)
+}
+
+fn run_with(rows: &[Row], pile: Pile, sand: Option<Sand>) -> (Answer, Vec<u8>) {
     let mut table = vec![0x5A; TABLE];
-    let answer = calculate(&log_of(rows), &pile_bytes(&pile), &mut table);
+    let answer = calculate(&log_of(rows), &pile_bytes(&pile), sand, &mut table);
     (answer, table)
 }
 
@@ -70,7 +75,11 @@ fn numbers(answer: &Answer) -> [u64; 5] {
 
 /// Refusal, row and field; a refused calculation gives no numbers and leaves or empties the table.
 fn refused(rows: &[Row], pile: Pile) -> (u32, u32, u32) {
-    let (answer, table) = run(rows, pile);
+    refused_with(rows, pile, None)
+}
+
+fn refused_with(rows: &[Row], pile: Pile, sand: Option<Sand>) -> (u32, u32, u32) {
+    let (answer, table) = run_with(rows, pile, sand);
     let Answer {
         refusal,
         row,
@@ -95,7 +104,7 @@ fn refused(rows: &[Row], pile: Pile) -> (u32, u32, u32) {
 fn known_cases() {
     for case in cases::all() {
         let mut table = vec![0xFF; TABLE];
-        let answer = calculate(&case.log, &case.pile, &mut table);
+        let answer = calculate(&case.log, &case.pile, case.sand, &mut table);
         let numbers = numbers(&answer);
         match case.known {
             Known::Numbers(known) => {
@@ -112,7 +121,7 @@ fn known_cases() {
         if let Some(kilopascals) = case.resistance {
             let mut pile = read_pile(&case.pile);
             (pile.section, pile.a, pile.b) = (2, 1_000, 1_000);
-            let square = calculate(&case.log, &pile_bytes(&pile), &mut table);
+            let square = calculate(&case.log, &pile_bytes(&pile), None, &mut table);
             assert_eq!(square.tip, kilopascals * 1_000, "case {}", case.name);
         }
     }
@@ -125,7 +134,7 @@ fn bytes_and_slices_of_case_a() {
     assert!(a.log[6..].iter().all(|byte| *byte == 0));
     assert_eq!(a.pile, cases::PILE_A);
     let mut table = vec![0xFF; TABLE];
-    calculate(&a.log, &a.pile, &mut table);
+    calculate(&a.log, &a.pile, a.sand, &mut table);
     assert_eq!(table[..7], cases::SLICE_A);
     for (place, (top, thickness, friction, factor)) in cases::SLICES_A.into_iter().enumerate() {
         let expected = Slice {
@@ -149,7 +158,7 @@ fn bytes_and_slices_of_case_a() {
 fn full_table() {
     let (rows, pile) = cases::fullest();
     let mut table = vec![0; TABLE];
-    let answer = calculate(&log_of(&rows), &pile_bytes(&pile), &mut table);
+    let answer = calculate(&log_of(&rows), &pile_bytes(&pile), None, &mut table);
     assert_eq!(answer.refusal, 0);
     assert!(read_slice(&table, 82).thickness > 0);
     let sum: u32 = (0..83)
@@ -189,14 +198,14 @@ fn log_counts_and_lengths() {
     let mut table = vec![7; TABLE];
     let mut log = log_of(&[row(20_000, 0, 130, 95)]);
     log[320] = 1;
-    assert_eq!(calculate(&log, &packed, &mut table).refusal, 2);
+    assert_eq!(calculate(&log, &packed, None, &mut table).refusal, 2);
     for count in [0, 65, 255] {
         log[0] = count;
-        assert_eq!(calculate(&log, &packed, &mut table).refusal, 2);
+        assert_eq!(calculate(&log, &packed, None, &mut table).refusal, 2);
     }
-    assert_eq!(calculate(&log[1..], &packed, &mut table).refusal, 1);
-    assert_eq!(calculate(&log, &packed[1..], &mut table).refusal, 1);
-    assert_eq!(calculate(&log, &packed, &mut table[1..]).refusal, 1);
+    assert_eq!(calculate(&log[1..], &packed, None, &mut table).refusal, 1);
+    assert_eq!(calculate(&log, &packed[1..], None, &mut table).refusal, 1);
+    assert_eq!(calculate(&log, &packed, None, &mut table[1..]).refusal, 1);
     assert!(table.iter().all(|byte| *byte == 7));
 }
 

@@ -17,6 +17,11 @@ pub fn kind_of(soil: u32) -> u32 {
 }
 
 #[inline]
+pub fn is_sand(soil: u32) -> bool {
+    kind_of(soil) <= 3
+}
+
+#[inline]
 pub fn index_of(soil: u32) -> u32 {
     (soil >> 7) & 0xFF
 }

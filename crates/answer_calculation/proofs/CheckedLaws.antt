@@ -7,6 +7,7 @@ use native.Mathlib.Omega.{arith}
 use lib.ListN.{length}
 use borrow.Author.Tests.{eqb-false}
 use Rattle.rules.specs.declared.Answer.{Answer}
+use Rattle.rules.specs.declared.SandRecord.{SandRecord}
 use Rattle.rules.specs.Base.{refuse, refuses, when, first}
 use Rattle.rules.specs.Limits.{limitOf, tableSize}
 use Rattle.rules.specs.Packed.{rowsOf, pileOf, tableBytes}
@@ -20,9 +21,9 @@ use Rattle.record_log_checks.specs.declared.Checked.{Checked}
 use Rattle.record_log_checks.specs.Checks.{contentChecked}
 use Rattle.answer_work.proofs.WorkLaws.{on, off}
 
-pub wrong : (log pile table : List ℕ) → lengthsWrong log pile table ≡ true → (refused (refuse 1) ≡ calculated log pile table) × (table ≡ tableAfter log pile table)
+pub wrong : (log pile : List ℕ) (extra : SandRecord) (table : List ℕ) → lengthsWrong log pile table ≡ true → (refused (refuse 1) ≡ calculated log pile extra table) × (table ≡ tableAfter log pile extra table)
 unfolding calculated tableAfter lentChecks first when
-wrong log pile table h = (rw h, rw h)
+wrong log pile extra table h = (rw h, rw h)
 
 -- what check 1 sees to
 pub record Long (log pile table : List ℕ) : Type 0 where
@@ -47,9 +48,9 @@ module _ {log pile table : List ℕ} (l : Long log pile table) {r : Checked} (e 
   unfolding contentChecked first when
   checks = rw (lent-grouped log pile table, l .right, e)
 
-  pub log-refused : (r .refusal .number ≡ 0 → ⊥) → (refused (r .refusal) ≡ calculated log pile table) × (table ≡ tableAfter log pile table)
+  pub log-refused : (extra : SandRecord) → (r .refusal .number ≡ 0 → ⊥) → (refused (r .refusal) ≡ calculated log pile extra table) × (table ≡ tableAfter log pile extra table)
   unfolding calculated tableAfter
-  log-refused n = (rw (checks, on (r .refusal .number) n), rw (checks, on (r .refusal .number) n))
+  log-refused extra n = (rw (checks, on (r .refusal .number) n), rw (checks, on (r .refusal .number) n))
 
   module _ (z : r .refusal .number ≡ 0) where
     clear : refuses (contentChecks log) ≡ false
@@ -60,7 +61,7 @@ module _ {log pile table : List ℕ} (l : Long log pile table) {r : Checked} (e 
     unfolding contentChecked first when
     ready = (rw (log-grouped log, l .formed) clear, rw (e, clear), omega (arith, l .size))
 
-    pub worked : (a : Answer) (after : List ℕ) → a ≡ freshAnswer log pile → after ≡ tableBytes (length table) (heldSlicesOf (rowsOf log) (pileOf pile))
-        → (a ≡ calculated log pile table) × (after ≡ tableAfter log pile table)
+    pub worked : (extra : SandRecord) (a : Answer) (after : List ℕ) → a ≡ freshAnswer log pile extra → after ≡ tableBytes (length table) (heldSlicesOf (rowsOf log) (pileOf pile) extra)
+        → (a ≡ calculated log pile extra table) × (after ≡ tableAfter log pile extra table)
     unfolding calculated tableAfter freshTable
-    worked a after f g = (rw (checks, off (r .refusal .number) z) f, rw (checks, off (r .refusal .number) z) (rw (l .size) at g))
+    worked extra a after f g = (rw (checks, off (r .refusal .number) z) f, rw (checks, off (r .refusal .number) z) (rw (l .size) at g))

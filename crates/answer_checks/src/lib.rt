@@ -1,7 +1,9 @@
-// Checks 7 to 12 of a pile in its ground: its depths (7 and 8), the soil below its tip (9, 11 and 12) and its seat (10).
+// Checks 7 to 12 and 17 of a pile in its ground: its depths (7 and 8), its tip in clay (10 to 12) or in sand (9, 10 and 17), and its seat (10).
+mod clay;
 mod depths;
+mod sand;
 mod seat;
-mod tip;
 
+pub use clay::clay_refusal;
 pub use depths::depth_refusal;
-pub use tip::tip_refusal;
+pub use sand::sand_refusal;

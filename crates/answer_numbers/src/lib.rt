@@ -44,11 +44,14 @@ fn shaft_force(pile: Pile, line: u64) -> u64
     line * (a + b) * 2 / 1000
 }
 
-// 5, of tip and shaft together.
+// 5, of tip and shaft together; a sand tip takes all.
 fn capacity(soil: Soil, n: u64) -> u64
     requires { ⌜ n ≤ forceBound + forceBound ⌝ }
     ensures { λ r. ⌜ r ≡ capacityOf soil n ⌝ }
 {
+    if soil.kind <= 3 {
+        return n;
+    }
     if soil.saturation < 90 {
         return n * 8 / 10;
     }

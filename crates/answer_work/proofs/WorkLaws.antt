@@ -13,12 +13,11 @@ use Rattle.rules.specs.declared.Soil.{Soil}
 use Rattle.rules.specs.declared.Pile.{Pile}
 use Rattle.rules.specs.declared.Slice.{Slice}
 use Rattle.rules.specs.declared.Answer.{Answer}
-use Rattle.rules.specs.declared.TipRead.{TipRead}
+use Rattle.rules.specs.declared.SandRecord.{SandRecord}
 use Rattle.rules.specs.Base.{pick, refuse, refuses, first}
 use Rattle.rules.specs.Packed.{rowsOf, pileOf, tableBytes}
 use Rattle.rules.specs.Ground.{depthOf, same, soilAt}
 use Rattle.rules.specs.Pieces.{runTop}
-use Rattle.rules.specs.Numbers.{tipOf, tipRead, pascals, resistance}
 use Rattle.rules.specs.Checks.{groundChecks}
 use Rattle.rules.specs.Answers.{refused, numbers, answer, heldSlices}
 use Rattle.rules.specs.Calculation.{answerOf, heldSlicesOf, freshAnswer}
@@ -28,6 +27,7 @@ use Rattle.record_slice_table.proofs.TableLaws.{filled-none}
 use Rattle.ground_shaft.specs.declared.Shaft.{Shaft}
 use Rattle.ground_shaft.specs.Shafts.{cutOf, shaftOf}
 use Rattle.answer_checks.specs.Depths.{depthChecks}
+use Rattle.answer_tips.specs.Tips.{resistanceHeld}
 
 -- a refusal's number, and whether it refuses
 pub on : (n : ℕ) → (n ≡ 0 → ⊥) → ltb 0 n ≡ true
@@ -56,14 +56,14 @@ unfolding early depthChecks
 early-is depth p r own deep n f o d e = rw (f, o, d, e)
 
 -- the answer, how many slices it has, and the table: what is to be worked out
-abbrev pub Right : List Row → Pile → ℕ → Answer → ℕ → List ℕ → Type 0
-Right rs p size a used bytes = ((a ≡ answerOf rs p) × (used ≡ length (heldSlicesOf rs p))) × (bytes ≡ tableBytes size (heldSlicesOf rs p))
+abbrev pub Right : List Row → Pile → SandRecord → ℕ → Answer → ℕ → List ℕ → Type 0
+Right rs p extra size a used bytes = ((a ≡ answerOf rs p extra) × (used ≡ length (heldSlicesOf rs p extra))) × (bytes ≡ tableBytes size (heldSlicesOf rs p extra))
 
 -- and what a refusal leaves
 abbrev pub Cleared : Refusal → ℕ → Answer → ℕ → List ℕ → Type 0
 Cleared r size a used bytes = ((a ≡ refused r) × (used ≡ 0)) × (bytes ≡ replicate size 0)
 
-module _ (rs : List Row) (p : Pile) (size : ℕ) where
+module _ (rs : List Row) (p : Pile) (extra : SandRecord) (size : ℕ) where
   abbrev below : Soil
   below = soilAt rs (p .tip)
 
@@ -74,11 +74,11 @@ module _ (rs : List Row) (p : Pile) (size : ℕ) where
   cut = cutOf rs p
 
   abbrev checks : Refusal
-  checks = groundChecks (soilAt rs) (depthOf rs) p
+  checks = groundChecks (soilAt rs) (depthOf rs) p extra
 
   -- what refusal r leaves is what is to be worked out
   abbrev pub Decides : Refusal → Type 0
-  Decides r = (a : Answer) (used : ℕ) (bytes : List ℕ) → Cleared r size a used bytes → Right rs p size a used bytes
+  Decides r = (a : Answer) (used : ℕ) (bytes : List ℕ) → Cleared r size a used bytes → Right rs p extra size a used bytes
 
   decides : (r c : Refusal) → r ≡ c → refuses r ≡ true → (refuses c ≡ true → checks ≡ c) → Decides r
   unfolding answerOf answer heldSlicesOf heldSlices
@@ -90,34 +90,35 @@ module _ (rs : List Row) (p : Pile) (size : ℕ) where
   module _ (r : Refusal) (e : r ≡ early (depthOf rs) p) where
     pub no-early : (r .number ≡ 0 → ⊥) → Decides r
     unfolding checksFrom
-    no-early n = decides r _ e (on (r .number) n) (λ h. ground-grouped (soilAt rs) (depthOf rs) p ∙ first-left _ _ h)
+    no-early n = decides r _ e (on (r .number) n) (λ h. ground-grouped (soilAt rs) (depthOf rs) p extra ∙ first-left _ _ h)
 
     pub past-early : r .number ≡ 0 → refuses (early (depthOf rs) p) ≡ false
     past-early z = ap refuses (sym e) ∙ off (r .number) z
 
   -- past checks 5 to 8, by the shaft that was cut
-  module _ (h : refuses (early (depthOf rs) p) ≡ false) (c : Shaft) (e : c ≡ shaftOf rs p) (n : ℕ) (l : refuse n ≡ late (c .soil) (c .top) p) where
-    by-late : checks ≡ late below top p
+  module _ (h : refuses (early (depthOf rs) p) ≡ false) (c : Shaft) (e : c ≡ shaftOf rs p) (n : ℕ) (l : refuse n ≡ late (c .soil) (c .top) p extra) where
+    by-late : checks ≡ late below top p extra
     unfolding checksFrom
-    by-late = ground-grouped (soilAt rs) (depthOf rs) p ∙ first-right _ _ h
+    by-late = ground-grouped (soilAt rs) (depthOf rs) p extra ∙ first-right _ _ h
 
-    late-is : refuse n ≡ late below top p
+    late-is : refuse n ≡ late below top p extra
     unfolding shaftOf
     late-is = rw e at l
 
     pub no-tip : (r : Refusal) → r ≡ refuse n → (n ≡ 0 → ⊥) → Decides r
     no-tip r q k = decides r _ (q ∙ late-is) (ap refuses q ∙ on n k) (λ x. by-late)
 
-    -- past checks 9 to 12 too
-    pub done : n ≡ 0 → (t : TipRead) (r line : ℕ) (a : Answer) (bytes : List ℕ) → t ≡ tipRead (tipOf p) (c .soil .index) → r ≡ pascals t → line ≡ c .sum / 2000000
-        → a ≡ numbers (c .soil) p r line → bytes ≡ tableBytes size cut → Right rs p size a (c .used) bytes
-    unfolding answerOf answer heldSlicesOf heldSlices resistance shaftOf
-    done z t r line a bytes read j k f b =
+    -- past the checks of the tip too
+    pub done : n ≡ 0 → (r line : ℕ) (a : Answer) (bytes : List ℕ) → r ≡ resistanceHeld (c .soil) (c .top) p extra → line ≡ c .sum / 2000000
+        → a ≡ numbers (c .soil) p r line → bytes ≡ tableBytes size cut → Right rs p extra size a (c .used) bytes
+    unfolding answerOf answer heldSlicesOf heldSlices resistanceHeld shaftOf
+    done z r line a bytes j k f b =
         let none : refuses checks ≡ false = ap refuses (by-late ∙ sym late-is) ∙ off n z in
-        ((rw (none, f, k, j, read, e), rw (none, e)), rw none b)
+        let held : refuses (late (c .soil) (c .top) p extra) ≡ false = ap refuses (sym l) ∙ off n z in
+        ((rw (none, f, k, j, held, e), rw (none, e)), rw none b)
 
 -- of the bytes of a log and a pile record
-pub fresh : (log pile : List ℕ) (p : Pile) (size : ℕ) (a : Answer) {used : ℕ} {bytes : List ℕ} → p ≡ pileOf pile → Right (rowsOf log) p size a used bytes
-    → ((a ≡ freshAnswer log pile) × (used ≡ length (heldSlicesOf (rowsOf log) (pileOf pile)))) × (bytes ≡ tableBytes size (heldSlicesOf (rowsOf log) (pileOf pile)))
+pub fresh : (log pile : List ℕ) (p : Pile) (extra : SandRecord) (size : ℕ) (a : Answer) {used : ℕ} {bytes : List ℕ} → p ≡ pileOf pile → Right (rowsOf log) p extra size a used bytes
+    → ((a ≡ freshAnswer log pile extra) × (used ≡ length (heldSlicesOf (rowsOf log) (pileOf pile) extra))) × (bytes ≡ tableBytes size (heldSlicesOf (rowsOf log) (pileOf pile) extra))
 unfolding freshAnswer
-fresh log pile p size a e w = rw e at w
+fresh log pile p extra size a e w = rw e at w

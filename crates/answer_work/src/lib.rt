@@ -1,14 +1,13 @@
-// What is worked out of a log past its checks and a pile record: checks 5 to 12 in order, the numbers, and the slice table, written in place.
+// What is worked out of a log past its checks, a pile record and its extra record: checks 5 to 12 and 17 in order, the numbers, and the slice
+// table, written in place.
 // Nothing counts the slices: a table has places for every shaft of a pile that passes checks 7 and 8.
 use answer_checks::depth_refusal;
-use answer_checks::tip_refusal;
 use answer_numbers::five_numbers;
 use answer_numbers::line_of;
+use answer_tips::work_tip;
 use base_replies::first;
 use base_replies::refuse;
 use base_replies::refused;
-use norm_grades::depth_read;
-use norm_tip_reads::pascals;
 use record_pile_ranges::pile_refusal;
 use record_piles::take_pile;
 use record_slice_table::clear_table;
@@ -27,6 +26,7 @@ ghost use Rattle.rules.specs.Answers as answers;
 use rules::Answer;
 use rules::Pile;
 use rules::Refusal;
+use rules::SandRecord;
 
 // What is worked out of a log and a pile record beside the table: the answer, and how many slices it has.
 pub struct Worked {
@@ -34,7 +34,7 @@ pub struct Worked {
     pub used: usize,
 }
 
-// A refusal by 5 to 12: no number, and no slice in the table.
+// A refusal by 5 to 12 or 17: no number, and no slice in the table.
 fn no_work(table: &mut [u8], refusal: Refusal) -> Worked
     ensures { λ r. ⌜ (r .answer ≡ answers.refused refusal) × (r .used ≡ 0) ⌝ }
     ensures { λ _. ⌜ now (table .exit) ≡ replicate (length (now (table .entry))) 0 ⌝ }
@@ -47,32 +47,31 @@ fn no_work(table: &mut [u8], refusal: Refusal) -> Worked
     }
 }
 
-// A pile that passes checks 5 to 8. Its shaft is cut before checks 9 to 12 are looked at: the cut tells the soil below the tip and its stratum.
-fn work_pile(log: &[u8], pile: Pile, table: &mut [u8]) -> Worked
+// A pile that passes checks 5 to 8. Its shaft is cut before its tip is looked at: the cut tells the soil below the tip and its stratum.
+fn work_pile(log: &[u8], pile: Pile, extra: SandRecord, table: &mut [u8]) -> Worked
     requires { ⌜ Passed (now log) × (base.refuses (early (depthOf (rowsOf (now log))) pile) ≡ false) × (tableSize (limitOf (now log)) ≤ length (now table)) ⌝ }
-    ensures { λ r. ⌜ (r .answer ≡ answerOf (rowsOf (now (log .entry))) pile) × (r .used ≡ length (heldSlicesOf (rowsOf (now (log .entry))) pile)) ⌝ }
-    ensures { λ _. ⌜ now (table .exit) ≡ tableBytes (length (now (table .entry))) (heldSlicesOf (rowsOf (now (log .entry))) pile) ⌝ }
+    ensures { λ r. ⌜ (r .answer ≡ answerOf (rowsOf (now (log .entry))) pile extra) × (r .used ≡ length (heldSlicesOf (rowsOf (now (log .entry))) pile extra)) ⌝ }
+    ensures { λ _. ⌜ now (table .exit) ≡ tableBytes (length (now (table .entry))) (heldSlicesOf (rowsOf (now (log .entry))) pile extra) ⌝ }
 {
     let cut = ground_shaft::cut_shaft(log, pile, table);
     let soil = cut.soil;
     let used = cut.used;
-    let read = norm_tips::tip_resistance(depth_read(pile.grade, pile.tip), soil.index);
-    let late = tip_refusal(pile, soil, cut.top, read);
-    if late != 0 {
-        return no_work(table, refuse(late));
+    let tip = work_tip(pile, extra, soil, cut.top);
+    if tip.refusal != 0 {
+        return no_work(table, refuse(tip.refusal));
     }
-    let answer = five_numbers(soil, pile, pascals(read), line_of(cut.sum));
+    let answer = five_numbers(soil, pile, tip.resistance, line_of(cut.sum));
     Worked {
         answer: answer,
         used: used,
     }
 }
 
-// The answer and the table of a log past its checks, whose rows are this deep, and a pile record; the table has the places of the log's form.
-pub fn work_out(log: &[u8], depth: u64, pile: &[u8], table: &mut [u8]) -> Worked
+// The answer and the table of a log past its checks, whose rows are this deep, a pile record and its extra record; the table has the places of the log's form.
+pub fn work_out(log: &[u8], depth: u64, pile: &[u8], extra: SandRecord, table: &mut [u8]) -> Worked
     requires { ⌜ Passed (now log) × (depth ≡ depthOf (rowsOf (now log))) × (tableSize (limitOf (now log)) ≤ length (now table)) ⌝ }
-    ensures { λ r. ⌜ (r .answer ≡ freshAnswer (now (log .entry)) (now (pile .entry))) × (r .used ≡ length (heldSlicesOf (rowsOf (now (log .entry))) (pileOf (now (pile .entry))))) ⌝ }
-    ensures { λ _. ⌜ now (table .exit) ≡ tableBytes (length (now (table .entry))) (heldSlicesOf (rowsOf (now (log .entry))) (pileOf (now (pile .entry)))) ⌝ }
+    ensures { λ r. ⌜ (r .answer ≡ freshAnswer (now (log .entry)) (now (pile .entry)) extra) × (r .used ≡ length (heldSlicesOf (rowsOf (now (log .entry))) (pileOf (now (pile .entry))) extra)) ⌝ }
+    ensures { λ _. ⌜ now (table .exit) ≡ tableBytes (length (now (table .entry))) (heldSlicesOf (rowsOf (now (log .entry))) (pileOf (now (pile .entry))) extra) ⌝ }
 {
     let p = take_pile(pile);
     let own = pile_refusal(p);
@@ -81,5 +80,5 @@ pub fn work_out(log: &[u8], depth: u64, pile: &[u8], table: &mut [u8]) -> Worked
     if refusal.number != 0 {
         return no_work(table, refusal);
     }
-    work_pile(log, p, table)
+    work_pile(log, p, extra, table)
 }

@@ -1,4 +1,4 @@
-// The smaller and the larger of two numbers, and a byte as a number of 64 bits.
+// The smaller and the larger of two numbers, and a byte or two as a number of 64 bits.
 ghost use mathlib.Core.Path.{_≡_};
 ghost use Prim.Native.Nat.{_<_, min, max};
 
@@ -24,4 +24,10 @@ pub fn wide(x: u8) -> u64
     ensures { λ r. ⌜ (r ≡ x) × (r < 256) ⌝ }
 {
     x as u64
+}
+
+pub fn wide_pair(pair: u16) -> u64
+    ensures { λ r. ⌜ r ≡ pair ⌝ }
+{
+    pair as u64
 }

@@ -7,6 +7,7 @@ use lib.ListN.{length}
 use borrow.Author.Tests.{lt-ltb, le-ltb}
 use Rattle.rules.specs.declared.Refusal.{Refusal}
 use Rattle.rules.specs.declared.Answer.{Answer}
+use Rattle.rules.specs.declared.SandRecord.{SandRecord}
 use Rattle.rules.specs.Base.{refuses, when, first}
 use Rattle.rules.specs.Records.{rowSize}
 use Rattle.rules.specs.Limits.{limitOf, tableSize}
@@ -35,10 +36,10 @@ pub nothing-said : (e : Edit) (log pile table : List ℕ) (r : Checked) → r �
 nothing-said e log pile table r h n = ap refuses (sym (said e log pile table r h)) ∙ le-ltb 0 (r .refusal .number) n
 
 -- "A refused edit .. changes no buffer."
-pub refused-edit : (e : Edit) (log pile table : List ℕ) (w : Refusal) (a : Answer) → w ≡ editChecks e log pile table → 0 < w .number → a ≡ refused w
-    → (a ≡ editReply e log pile table) × ((log ≡ editLog e log pile table) × (table ≡ editTable e log pile table))
+pub refused-edit : (e : Edit) (log pile : List ℕ) (extra : SandRecord) (table : List ℕ) (w : Refusal) (a : Answer) → w ≡ editChecks e log pile table → 0 < w .number → a ≡ refused w
+    → (a ≡ editReply e log pile extra table) × ((log ≡ editLog e log pile table) × (table ≡ editTable e log pile extra table))
 unfolding editReply editLog editTable
-refused-edit e log pile table w a h n f =
+refused-edit e log pile extra table w a h n f =
     let r : refuses (editChecks e log pile table) ≡ true = ap refuses (sym h) ∙ lt-ltb 0 (w .number) n in
     (f ∙ ap refused h ∙ rw r, (rw r, rw r))
 
@@ -77,7 +78,7 @@ module _ (e : Edit) (log pile table : List ℕ) (none : Accepted e log pile tabl
   pub now-long : length table ≡ tableSize (limitOf s)
   now-long = let a = allowed e log pile table none in rw (f, a .left .limit) (a .lent .size)
 
-  pub accepted-edit : (a : Answer) (new : List ℕ) → a ≡ editAnswer s pile table → new ≡ freshTable s pile
-      → (a ≡ editReply e log pile table) × ((s ≡ editLog e log pile table) × (new ≡ editTable e log pile table))
+  pub accepted-edit : (extra : SandRecord) (a : Answer) (new : List ℕ) → a ≡ editAnswer s pile extra table → new ≡ freshTable s pile extra
+      → (a ≡ editReply e log pile extra table) × ((s ≡ editLog e log pile table) × (new ≡ editTable e log pile extra table))
   unfolding editReply editLog editTable
-  accepted-edit a new h t = (rw none (h ∙ rw f), (rw none f, rw none (t ∙ rw f)))
+  accepted-edit extra a new h t = (rw none (h ∙ rw f), (rw none f, rw none (t ∙ rw f)))

@@ -6,6 +6,7 @@ use native.Mathlib.Omega.{arith}
 use Rattle.rules.specs.declared.Row.{Row}
 use Rattle.rules.specs.declared.Pile.{Pile}
 use Rattle.rules.specs.declared.Slice.{Slice}
+use Rattle.rules.specs.declared.SandRecord.{SandRecord}
 use Rattle.rules.specs.Base.{pick, refuses}
 use Rattle.rules.specs.Packed.{pileOf}
 use Rattle.rules.specs.Ranges.{SlicesFit}
@@ -31,9 +32,9 @@ shown-fit : (b : Bool) (cs : List Slice) → SlicesFit cs → SlicesFit (pick b 
 shown-fit true cs f = tt
 shown-fit false cs f = f
 
-pub rows-fit : (rs : List Row) (s : List ℕ) → SlicesFit (heldSlicesOf rs (pileOf s))
+pub rows-fit : (rs : List Row) (s : List ℕ) (extra : SandRecord) → SlicesFit (heldSlicesOf rs (pileOf s) extra)
 unfolding heldSlicesOf heldSlices pieces pileOf
-rows-fit rs s =
+rows-fit rs s extra =
     let p : Pile = pileOf s in
     let g = soilAt rs in
-    shown-fit (refuses (groundChecks g (depthOf rs) p)) (shaftSlices g p) (slices-fit p (p .head + (p .tip - p .head)) (piecesFrom (soilAt rs) (p .head) (p .tip - p .head)) (omega arith) (all-fit (soilAt rs) (p .head) (p .tip - p .head)))
+    shown-fit (refuses (groundChecks g (depthOf rs) p extra)) (shaftSlices g p) (slices-fit p (p .head + (p .tip - p .head)) (piecesFrom (soilAt rs) (p .head) (p .tip - p .head)) (omega arith) (all-fit (soilAt rs) (p .head) (p .tip - p .head)))

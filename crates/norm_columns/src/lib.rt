@@ -2,7 +2,7 @@
 use base_order::smaller;
 ghost use mathlib.Core.Path.{_≡_};
 ghost use Prim.Native.Nat.{_+_, _*_, _-_, _<_, _≤_, max};
-ghost use Rattle.rules.specs.Bounds.{cellBound};
+ghost use Rattle.rules.specs.Bounds.{weighedBound};
 ghost use Rattle.norm_columns.specs.Across.{Across};
 
 // How far an index stands right of a table's first column. Both are stored as hundredths plus 100.
@@ -36,7 +36,7 @@ pub fn column_for(q: u64, c: u64) -> Column
 
 // Two numbers weighed: b by a part of the whole, a by the rest of it.
 pub fn mean(whole: u64, part: u64, a: u64, b: u64) -> u64
-    requires { ⌜ (part ≤ whole) × (whole ≤ 20000) × (a ≤ cellBound * 10) × (b ≤ cellBound * 10) ⌝ }
+    requires { ⌜ (part ≤ whole) × (whole ≤ 20000) × (a ≤ weighedBound) × (b ≤ weighedBound) ⌝ }
     ensures { λ r. ⌜ (r ≡ (whole - part) * a + part * b) × (r ≤ whole * max a b) ⌝ }
 {
     (whole - part) * a + part * b

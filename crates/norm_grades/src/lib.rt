@@ -1,8 +1,8 @@
-// The grade of a site: how deep it is cut, and how far that or a fill moves the depths at which the norm's tables are read.
+// The grade of a site: how deep it is cut, how deep a tip then is, and how far a cut or a fill moves the depths at which tables are read.
 use base_order::larger;
 use rules::FREE_GRADE;
 ghost use mathlib.Core.Path.{_≡_};
-ghost use Prim.Native.Nat.{_^_, _≤_};
+ghost use Prim.Native.Nat.{_-_, _^_, _≤_};
 ghost use Rattle.rules.specs.Grades as rule;
 
 // Grades from here on are negative: 16 bits in two's complement.
@@ -26,6 +26,14 @@ fn fill_height(grade: u16) -> u64
         return grade as u64;
     }
     0
+}
+
+// A depth in millimetres, less the cut.
+pub fn below_cut(grade: u16, depth: u16) -> u64
+    ensures { λ r. ⌜ (r ≡ depth - rule.cutDepth grade) × (r ≤ depth) ⌝ }
+{
+    let cut = cut_depth(grade);
+    larger(depth as u64, cut) - cut
 }
 
 // How far the depths at which the tables are read are moved, in millimetres: raised by a fill, lowered by a cut.

@@ -5,7 +5,7 @@ use Prim.Native.Nat.{ℕ, _+_, _*_, _-_, _<_, _≤_, min, max}
 use lib.ListN.{getD}
 use Rattle.rules.specs.declared.Spot.{Spot}
 
--- no two rows of either table are further apart: 10 m in millimetres, 5 m in half millimetres
+-- no two marks of any table are further apart: 10 m in millimetres, 5 m in half millimetres, five halves of h/d in parts of 2,000
 abbrev pub spanBound : ℕ
 spanBound = 10000
 

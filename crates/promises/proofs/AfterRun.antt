@@ -51,12 +51,12 @@ module _ (c : Call) (d : Desk) (h : Accepted (c .edit) (d .log) (c .pile) (d .ta
   a : Allowed (c .edit) (d .log) (c .pile) (d .table)
   a = allowed (c .edit) (d .log) (c .pile) (d .table) h
 
-  again : LentPassed now (c .pile) (freshTable now (c .pile))
+  again : LentPassed now (c .pile) (freshTable now (c .pile) (c .extra))
   again =
-      let table = freshTable now (c .pile) in
+      let table = freshTable now (c .pile) (c .extra) in
       let long : pileLengthWrong (c .pile) ≡ false = either-left (pileLengthWrong (c .pile)) _ (either-right (formless (d .log)) _ (a .lent .right)) in
       let formed : formless now ≡ false = rw (a .left .limit) (a .lent .formed) in
-      let lent : lengthsWrong now (c .pile) table ≡ false = rw (formed, long, eq-eqb _ _ (fresh-long now (c .pile) (a .left .passed))) in
+      let lent : lengthsWrong now (c .pile) table ≡ false = rw (formed, long, eq-eqb _ _ (fresh-long now (c .pile) (c .extra) (a .left .passed))) in
       passes now (c .pile) table lent (a .left .passed)
 
   afresh : Afresh c d (step c d)
@@ -65,7 +65,7 @@ module _ (c : Call) (d : Desk) (h : Accepted (c .edit) (d .log) (c .pile) (d .ta
     held = rw h;
     log = rw h (a .left .passed);
     pieces = rw h again;
-    answer = rw (h, again) (sym (held-is now (c .pile) (d .table)));
+    answer = rw (h, again) (sym (held-is now (c .pile) (c .extra) (d .table)));
     table = rw (h, again);
   }
 

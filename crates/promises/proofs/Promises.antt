@@ -13,6 +13,7 @@ use Rattle.rules.specs.declared.Soil.{Soil}
 use Rattle.rules.specs.declared.Log.{Log}
 use Rattle.rules.specs.declared.Pile.{Pile}
 use Rattle.rules.specs.declared.Slice.{Slice}
+use Rattle.rules.specs.declared.SandRecord.{SandRecord}
 use Rattle.rules.specs.Base.{refuses, nothing, first}
 use Rattle.rules.specs.Widths.{Fits, Bytes}
 use Rattle.rules.specs.Records.{plainSize, gradedSize, sliceWidths, sliceFields, sliceSize}
@@ -23,7 +24,8 @@ use Rattle.rules.specs.Ranges.{LogInRange, PileInRange, TakesGrade, Sound}
 use Rattle.rules.specs.Ground.{depthOf, soilAt, Agree}
 use Rattle.rules.specs.Pieces.{strata, topOf, cutParts, pieces, runTop}
 use Rattle.rules.specs.Tables.{frictionWeighed}
-use Rattle.rules.specs.Numbers.{belowTip, friction, frictionSpot, shaftSlices, thicknessSum, lineOf, resistance}
+use Rattle.rules.specs.SandTips.{sandCap}
+use Rattle.rules.specs.Numbers.{sand, belowTip, friction, frictionSpot, shaftSlices, thicknessSum, lineOf, tipOf, resistance, capacityOf}
 use Rattle.rules.specs.Edits.{Edit, asked, editedLog}
 use Rattle.rules.specs.Checks.{oneToFour, fiveOn, thirteenOn, lentChecks, groundChecks, calculationChecks, editChecks, LentPassed, Accepted, Numbered, OneOf}
 use Rattle.rules.specs.Reading.{noLog, noPile, noSlice, pileTold, pileOfRead, readLog, readPile, readSlice, packLogCheck, packedLog, packPileCheck, packedPile}
@@ -45,6 +47,7 @@ use Rattle.rules.proofs.KnownEdits as KnownEdits
 use Rattle.rules.proofs.StratumLaws as StratumLaws
 use Rattle.rules.proofs.RunLaws as RunLaws
 use Rattle.rules.proofs.GradeLaws as GradeLaws
+use Rattle.rules.proofs.SandLaws as SandLaws
 use Rattle.rules.proofs.RoomLaws as RoomLaws
 use Rattle.record_packing.proofs.RoundTrip as LogTrip
 use Rattle.record_pile_bytes.proofs.RoundTrip as PileTrip
@@ -55,55 +58,55 @@ use Rattle.promises.proofs.Room as Room
 
 -- Demand 1. "Every log, pile record, slice table and edit, however damaged, gets a reply": no contract of the door has a condition.
 
--- "A calculation checks 1 to 12 .. in order.": the first that refuses is the one replied
-pub first-in-order : (log pile table : List ℕ) → calculated log pile table .refusal ≡ calculationChecks log pile table
-first-in-order log pile table = OrderLaws.calculation-refusal log pile table
+-- "A calculation checks 1 to 12 .. in order.", 02 (iv): 17 "after 10": the first that refuses is the one replied
+pub first-in-order : (log pile : List ℕ) (extra : SandRecord) (table : List ℕ) → calculated log pile extra table .refusal ≡ calculationChecks log pile extra table
+first-in-order log pile extra table = OrderLaws.calculation-refusal log pile extra table
 
 -- "An edit checks 1 to 4 of what is lent, 13, 14, then 3 for its new row (row number k), then 4 for the new log; these refuse the edit. After
 -- that 5 to 12 .. refuse nothing: they become the held answer."
-pub first-in-order-of-an-edit : (e : Edit) (log pile table : List ℕ)
-    → editReply e log pile table .refusal ≡ first (editChecks e log pile table) (groundChecks (soilAt (rowsOf (editedLog e log))) (depthOf (rowsOf (editedLog e log))) (pileOf pile))
-first-in-order-of-an-edit e log pile table = OrderLaws.edit-refusal e log pile table
+pub first-in-order-of-an-edit : (e : Edit) (log pile : List ℕ) (extra : SandRecord) (table : List ℕ)
+    → editReply e log pile extra table .refusal ≡ first (editChecks e log pile table) (groundChecks (soilAt (rowsOf (editedLog e log))) (depthOf (rowsOf (editedLog e log))) (pileOf pile) extra)
+first-in-order-of-an-edit e log pile extra table = OrderLaws.edit-refusal e log pile extra table
 
 -- each check of these lists refuses with its own number, or tells nothing
-pub listed : (wrong : Bool) (e : Edit) (log : List ℕ) (g : ℕ → Soil) (depth : ℕ) (p : Pile)
-    → Numbered (1 ∷ 2 ∷ 3 ∷ 4 ∷ 5 ∷ 6 ∷ 7 ∷ 8 ∷ 9 ∷ 10 ∷ 11 ∷ 12 ∷ []) (oneToFour wrong log ++ fiveOn g depth p)
+pub listed : (wrong : Bool) (e : Edit) (log : List ℕ) (g : ℕ → Soil) (depth : ℕ) (p : Pile) (extra : SandRecord)
+    → Numbered (1 ∷ 2 ∷ 3 ∷ 4 ∷ 5 ∷ 6 ∷ 7 ∷ 8 ∷ 9 ∷ 10 ∷ 17 ∷ 11 ∷ 12 ∷ []) (oneToFour wrong log ++ fiveOn g depth p extra)
     × Numbered (1 ∷ 2 ∷ 3 ∷ 4 ∷ 13 ∷ 14 ∷ 3 ∷ 4 ∷ []) (oneToFour wrong log ++ thirteenOn e log)
-listed wrong e log g depth p = (ListedLaws.calculation-listed wrong log g depth p, ListedLaws.edit-listed wrong e log)
+listed wrong e log g depth p extra = (ListedLaws.calculation-listed wrong log g depth p extra, ListedLaws.edit-listed wrong e log)
 
 -- so these numbers are replied and no other, and a refused edit and an accepted one that holds a refusal differ by the number
-pub told-by-number : (e : Edit) (log pile table : List ℕ) (g : ℕ → Soil) (depth : ℕ) (p : Pile)
-    → (OneOf (1 ∷ 2 ∷ 3 ∷ 4 ∷ 5 ∷ 6 ∷ 7 ∷ 8 ∷ 9 ∷ 10 ∷ 11 ∷ 12 ∷ []) (calculationChecks log pile table .number) ⊎ (calculationChecks log pile table ≡ nothing))
+pub told-by-number : (e : Edit) (log pile : List ℕ) (extra : SandRecord) (table : List ℕ) (g : ℕ → Soil) (depth : ℕ) (p : Pile)
+    → (OneOf (1 ∷ 2 ∷ 3 ∷ 4 ∷ 5 ∷ 6 ∷ 7 ∷ 8 ∷ 9 ∷ 10 ∷ 17 ∷ 11 ∷ 12 ∷ []) (calculationChecks log pile extra table .number) ⊎ (calculationChecks log pile extra table ≡ nothing))
     × (OneOf (1 ∷ 2 ∷ 3 ∷ 4 ∷ 13 ∷ 14 ∷ 3 ∷ 4 ∷ []) (editChecks e log pile table .number) ⊎ (editChecks e log pile table ≡ nothing))
-    × (OneOf (5 ∷ 6 ∷ 7 ∷ 8 ∷ 9 ∷ 10 ∷ 11 ∷ 12 ∷ []) (groundChecks g depth p .number) ⊎ (groundChecks g depth p ≡ nothing))
-told-by-number e log pile table g depth p = (ListedLaws.calculation-number log pile table, ListedLaws.edit-number e log pile table, ListedLaws.ground-number g depth p)
+    × (OneOf (5 ∷ 6 ∷ 7 ∷ 8 ∷ 9 ∷ 10 ∷ 17 ∷ 11 ∷ 12 ∷ []) (groundChecks g depth p extra .number) ⊎ (groundChecks g depth p extra ≡ nothing))
+told-by-number e log pile extra table g depth p = (ListedLaws.calculation-number log pile extra table, ListedLaws.edit-number e log pile table, ListedLaws.ground-number g depth p extra)
 
 -- "a calculation refused by 1 to 4, changes no buffer", "zeros for line, tip, shaft, capacity, uplift and kept"
-pub refused-calculation : (log pile table : List ℕ) → refuses (lentChecks log pile table) ≡ true
-    → (calculated log pile table ≡ refused (lentChecks log pile table)) × (tableAfter log pile table ≡ table)
+pub refused-calculation : (log pile : List ℕ) (extra : SandRecord) (table : List ℕ) → refuses (lentChecks log pile table) ≡ true
+    → (calculated log pile extra table ≡ refused (lentChecks log pile table)) × (tableAfter log pile extra table ≡ table)
 unfolding calculated tableAfter
-refused-calculation log pile table h = (rw h, rw h)
+refused-calculation log pile extra table h = (rw h, rw h)
 
 -- "Under 5 to 12 .. the table becomes all zero"
-pub refused-pile : (log pile table : List ℕ) → LentPassed log pile table → refuses (calculated log pile table .refusal) ≡ true
-    → (calculated log pile table ≡ refused (calculated log pile table .refusal)) × (tableAfter log pile table ≡ replicate (tableSize (limitOf log)) 0)
+pub refused-pile : (log pile : List ℕ) (extra : SandRecord) (table : List ℕ) → LentPassed log pile table → refuses (calculated log pile extra table .refusal) ≡ true
+    → (calculated log pile extra table ≡ refused (calculated log pile extra table .refusal)) × (tableAfter log pile extra table ≡ replicate (tableSize (limitOf log)) 0)
 unfolding calculated tableAfter freshAnswer freshTable answerOf heldSlicesOf tableBytes slicesBytes
-refused-pile log pile table h g =
-    let k = refused-ground _ _ _ (rw h at g) in
+refused-pile log pile extra table h g =
+    let k = refused-ground _ _ _ extra (rw h at g) in
     let size = tableSize (limitOf log) in
     let z : size - 0 ≡ size = omega arith in
     (rw h (k .0), rw h (ap (tableBytes size) (k .1) ∙ ap (λ (n : ℕ). replicate {A = ℕ} n 0) z))
 
 -- "A refused edit .. changes no buffer."
-pub refused-edit : (e : Edit) (log pile table : List ℕ) → refuses (editChecks e log pile table) ≡ true
-    → (editReply e log pile table ≡ refused (editChecks e log pile table)) × (editLog e log pile table ≡ log) × (editTable e log pile table ≡ table)
+pub refused-edit : (e : Edit) (log pile : List ℕ) (extra : SandRecord) (table : List ℕ) → refuses (editChecks e log pile table) ≡ true
+    → (editReply e log pile extra table ≡ refused (editChecks e log pile table)) × (editLog e log pile table ≡ log) × (editTable e log pile extra table ≡ table)
 unfolding editReply editLog editTable
-refused-edit e log pile table h = (rw h, rw h, rw h)
+refused-edit e log pile extra table h = (rw h, rw h, rw h)
 
 -- "Under 5 to 12 .. the table becomes all zero; the log holds the edit": and "zeros for line, tip, shaft, capacity, uplift and kept"
-pub refused-pile-of-an-edit : (e : Edit) (log pile table : List ℕ) → Accepted e log pile table → refuses (editReply e log pile table .refusal) ≡ true
-    → (editReply e log pile table ≡ refused (editReply e log pile table .refusal)) × (editTable e log pile table ≡ replicate (length table) 0) × (editLog e log pile table ≡ editedLog e log)
-refused-pile-of-an-edit e log pile table h g = Edits.pile-refused e log pile table h g
+pub refused-pile-of-an-edit : (e : Edit) (log pile : List ℕ) (extra : SandRecord) (table : List ℕ) → Accepted e log pile table → refuses (editReply e log pile extra table .refusal) ≡ true
+    → (editReply e log pile extra table ≡ refused (editReply e log pile extra table .refusal)) × (editTable e log pile extra table ≡ replicate (length table) 0) × (editLog e log pile table ≡ editedLog e log)
+refused-pile-of-an-edit e log pile extra table h g = Edits.pile-refused e log pile extra table h g
 
 -- "a refused reading gives zero fields, a refused packing changes no buffer"
 pub refused-reading : (s : List ℕ) → (refuses (readLog s .refusal) ≡ true → readLog s .log ≡ noLog) × (refuses (readPile s .refusal) ≡ true → readPile s ≡ pileTold (readPile s .refusal) 0 noPile)
@@ -126,20 +129,20 @@ worked-edits = KnownEdits.worked-edits
 
 -- "a log that passes the checks has its numbers": a pile stands in its ground where what 01 asks of it holds (Sound, in facts), and then the
 -- reply is the five numbers and the table holds the slices of the shaft; and only a pile that stands is not refused.
-pub numbers-where-sound : (log pile table : List ℕ) → LentPassed log pile table → Sound (soilAt (rowsOf log)) (depthOf (rowsOf log)) (pileOf pile)
-    → (calculated log pile table ≡ numbers (soilAt (rowsOf log) (belowTip (pileOf pile))) (pileOf pile) (resistance (pileOf pile) (soilAt (rowsOf log) (belowTip (pileOf pile)))) (lineOf (shaftSlices (soilAt (rowsOf log)) (pileOf pile))))
-    × (tableAfter log pile table ≡ tableBytes (tableSize (limitOf log)) (shaftSlices (soilAt (rowsOf log)) (pileOf pile)))
-numbers-where-sound log pile table h s = SoundLaws.sound-numbers log pile table h s
+pub numbers-where-sound : (log pile : List ℕ) (extra : SandRecord) (table : List ℕ) → LentPassed log pile table → Sound (soilAt (rowsOf log)) (depthOf (rowsOf log)) (pileOf pile) extra
+    → (calculated log pile extra table ≡ numbers (soilAt (rowsOf log) (belowTip (pileOf pile))) (pileOf pile) (resistance (pileOf pile) extra (soilAt (rowsOf log) (belowTip (pileOf pile)))) (lineOf (shaftSlices (soilAt (rowsOf log)) (pileOf pile))))
+    × (tableAfter log pile extra table ≡ tableBytes (tableSize (limitOf log)) (shaftSlices (soilAt (rowsOf log)) (pileOf pile)))
+numbers-where-sound log pile extra table h s = SoundLaws.sound-numbers log pile extra table h s
 
-pub sound-where-not-refused : (g : ℕ → Soil) (depth : ℕ) (p : Pile) → p .grade < 2 ^ 16 → refuses (groundChecks g depth p) ≡ false → Sound g depth p
-sound-where-not-refused g depth p b h = SoundLaws.passes-sound g depth p b h
+pub sound-where-not-refused : (g : ℕ → Soil) (depth : ℕ) (p : Pile) (extra : SandRecord) → p .grade < 2 ^ 16 → refuses (groundChecks g depth p extra) ≡ false → Sound g depth p extra
+sound-where-not-refused g depth p extra b h = SoundLaws.passes-sound g depth p extra b h
 
 -- A log that passes the checks has the numbers and the slices of its ground, millimetre by millimetre.
-pub answered : (log pile table : List ℕ) → LentPassed log pile table
-    → (calculated log pile table ≡ answer (soilAt (rowsOf log)) (depthOf (rowsOf log)) (pileOf pile))
-    × (tableAfter log pile table ≡ tableBytes (tableSize (limitOf log)) (heldSlices (soilAt (rowsOf log)) (depthOf (rowsOf log)) (pileOf pile)))
+pub answered : (log pile : List ℕ) (extra : SandRecord) (table : List ℕ) → LentPassed log pile table
+    → (calculated log pile extra table ≡ answer (soilAt (rowsOf log)) (depthOf (rowsOf log)) (pileOf pile) extra)
+    × (tableAfter log pile extra table ≡ tableBytes (tableSize (limitOf log)) (heldSlices (soilAt (rowsOf log)) (depthOf (rowsOf log)) (pileOf pile) extra))
 unfolding calculated tableAfter freshAnswer freshTable answerOf heldSlicesOf
-answered log pile table h = (rw h, rw h)
+answered log pile extra table h = (rw h, rw h)
 
 -- "The part of each stratum between head and tip is cut from its top into slices of 2,000 mm; the last takes what is left": in order, of the
 -- strata of a ground g that is `depth` deep
@@ -151,11 +154,11 @@ pub top-of-stratum : (g : ℕ → Soil) (m depth : ℕ) → m < depth → runTop
 top-of-stratum g m depth h = StratumLaws.top-of-stratum g m depth h
 
 -- "Slice thicknesses add up to tip less head."
-pub slices-add-up : (log pile table : List ℕ) → refuses (calculated log pile table .refusal) ≡ false
-    → thicknessSum (heldSlices (soilAt (rowsOf log)) (depthOf (rowsOf log)) (pileOf pile)) ≡ pileOf pile .tip - pileOf pile .head
+pub slices-add-up : (log pile : List ℕ) (extra : SandRecord) (table : List ℕ) → refuses (calculated log pile extra table .refusal) ≡ false
+    → thicknessSum (heldSlices (soilAt (rowsOf log)) (depthOf (rowsOf log)) (pileOf pile) extra) ≡ pileOf pile .tip - pileOf pile .head
 unfolding heldSlices
-slices-add-up log pile table h =
-    let g = first-off (lentChecks log pile table) _ (rw (OrderLaws.two-groups log pile table) at h) in
+slices-add-up log pile extra table h =
+    let g = first-off (lentChecks log pile table) _ (rw (OrderLaws.two-groups log pile extra table) at h) in
     rw (g .1) (FitLaws.slices-add-up (soilAt (rowsOf log)) (pileOf pile))
 
 -- "Friction is kept in units of 1/200 Pa, in which it is always whole.": the division leaves no remainder
@@ -163,8 +166,8 @@ pub friction-whole : (s : Soil) (mid : ℕ) → friction s mid * frictionSpot s 
 friction-whole s mid = TableLaws.friction-whole s mid
 
 -- "how many leading slices of the new table already had the same seven bytes at the same place in the lent table": of the two tables alone
-pub kept-is : (e : Edit) (log pile table : List ℕ) → Accepted e log pile table → editReply e log pile table .kept ≡ keptOf (editTable e log pile table) table
-kept-is e log pile table h = Edits.kept-of-two e log pile table h
+pub kept-is : (e : Edit) (log pile : List ℕ) (extra : SandRecord) (table : List ℕ) → Accepted e log pile table → editReply e log pile extra table .kept ≡ keptOf (editTable e log pile extra table) table
+kept-is e log pile extra table h = Edits.kept-of-two e log pile extra table h
 
 -- "records round-trip both ways": fields in range pack into a buffer of the right length, and are read from it; and what is read of bytes packs
 -- into any buffer of that length, and leaves it with these bytes.
@@ -198,10 +201,10 @@ pub slice-round-trip-back : (s : List ℕ) (i : ℕ) → Bytes s → length s �
 slice-round-trip-back s i b h l = SliceTrip.place-back s i b h l
 
 -- "An accepted edit changes the log": the log is the edited one, the table and the answer are those worked out afresh of it
-pub accepted-edit : (e : Edit) (log pile table : List ℕ) → Accepted e log pile table
-    → (editLog e log pile table ≡ editedLog e log) × (editTable e log pile table ≡ freshTable (editedLog e log) pile)
-    × (editReply e log pile table ≡ withKept (keptOf (editTable e log pile table) table) (freshAnswer (editedLog e log) pile))
-accepted-edit e log pile table h = Edits.accepted-edit e log pile table h
+pub accepted-edit : (e : Edit) (log pile : List ℕ) (extra : SandRecord) (table : List ℕ) → Accepted e log pile table
+    → (editLog e log pile table ≡ editedLog e log) × (editTable e log pile extra table ≡ freshTable (editedLog e log) pile extra)
+    × (editReply e log pile extra table ≡ withKept (keptOf (editTable e log pile extra table) table) (freshAnswer (editedLog e log) pile extra))
+accepted-edit e log pile extra table h = Edits.accepted-edit e log pile extra table h
 
 -- Demand 3. "After any run of edits the held answer and slice table are those worked out afresh from which soil stands at each millimetre.":
 -- from any log and table bytes, once an edit of the run is accepted, and with the pile record of the last accepted one.
@@ -214,23 +217,23 @@ none-accepted cs d h = Run.none-after cs d h
 
 -- where afresh is of the ground alone
 pub afresh-is : (c : Call) (lent now : Desk) → Afresh c lent now
-    → (answerHeld c lent ≡ answer (soilAt (rowsOf (now .log))) (depthOf (rowsOf (now .log))) (pileOf (c .pile)))
-    × (now .table ≡ tableBytes (tableSize (limitOf (now .log))) (heldSlices (soilAt (rowsOf (now .log))) (depthOf (rowsOf (now .log))) (pileOf (c .pile))))
-afresh-is c lent now a = let k = answered (now .log) (c .pile) (now .table) (a .pieces) in (sym (a .answer) ∙ k .0, sym (a .table) ∙ k .1)
+    → (answerHeld c lent ≡ answer (soilAt (rowsOf (now .log))) (depthOf (rowsOf (now .log))) (pileOf (c .pile)) (c .extra))
+    × (now .table ≡ tableBytes (tableSize (limitOf (now .log))) (heldSlices (soilAt (rowsOf (now .log))) (depthOf (rowsOf (now .log))) (pileOf (c .pile)) (c .extra)))
+afresh-is c lent now a = let k = answered (now .log) (c .pile) (c .extra) (now .table) (a .pieces) in (sym (a .answer) ∙ k .0, sym (a .table) ∙ k .1)
 
 -- "So two logs that agree at every millimetre give equal answers and tables, however typed."
-pub however-typed : (a b pile t u : List ℕ) → LentPassed a pile t → LentPassed b pile u → Agree (rowsOf a) (rowsOf b)
-    → (calculated a pile t ≡ calculated b pile u) × (tableAfter a pile t ≡ tableAfter b pile u)
-however-typed a b pile t u p q h = RunLaws.however-typed a b pile t u p q h
+pub however-typed : (a b pile : List ℕ) (extra : SandRecord) (t u : List ℕ) → LentPassed a pile t → LentPassed b pile u → Agree (rowsOf a) (rowsOf b)
+    → (calculated a pile extra t ≡ calculated b pile extra u) × (tableAfter a pile extra t ≡ tableAfter b pile extra u)
+however-typed a b pile extra t u p q h = RunLaws.however-typed a b pile extra t u p q h
 
 -- "Rows do not matter, only millimetres do.": an accepted split is answered as a calculation of the log unsplit, and an edit that leaves as one
 -- row what a split would part as a calculation of the log in parts.
-pub split-changes-nothing : (k x : ℕ) (row log pile table : List ℕ) → Accepted (asked 4 k x row) log pile table → AsCalculated (asked 4 k x row) log log pile table
-split-changes-nothing k x row log pile table h = Edits.split-changes-nothing k x row log pile table h
+pub split-changes-nothing : (k x : ℕ) (row log pile : List ℕ) (extra : SandRecord) (table : List ℕ) → Accepted (asked 4 k x row) log pile table → AsCalculated (asked 4 k x row) log log pile extra table
+split-changes-nothing k x row log pile extra table h = Edits.split-changes-nothing k x row log pile extra table h
 
-pub merge-changes-nothing : (e : Edit) (k x : ℕ) (log pile table : List ℕ) → Accepted e log pile table → Accepted (asked 4 k x []) (editedLog e log) pile table
-    → AsCalculated e log (editedLog (asked 4 k x []) (editedLog e log)) pile table
-merge-changes-nothing e k x log pile table h g = Edits.merge-changes-nothing e k x log pile table h g
+pub merge-changes-nothing : (e : Edit) (k x : ℕ) (log pile : List ℕ) (extra : SandRecord) (table : List ℕ) → Accepted e log pile table → Accepted (asked 4 k x []) (editedLog e log) pile table
+    → AsCalculated e log (editedLog (asked 4 k x []) (editedLog e log)) pile extra table
+merge-changes-nothing e k x log pile extra table h g = Edits.merge-changes-nothing e k x log pile extra table h g
 
 -- Request (i) of 02. "Demands 2 and 3 read with the grade as part of the record.": every theorem above has it in `pileOf`. Beside them:
 
@@ -239,21 +242,23 @@ pub eight-bytes : (s : List ℕ) → length s ≡ plainSize → (pileOf s .grade
 eight-bytes s h = (GradeLaws.plain-level s (omega arith), GradeLaws.pile-behind s 2)
 
 -- a record of eight bytes and one of ten that hold the same fields are answered alike, in a calculation and in an edit, and leave the same bytes
-pub either-length : (e : Edit) (a b log table : List ℕ) → length a ≡ plainSize → length b ≡ gradedSize → pileOf a ≡ pileOf b
-    → (calculated log a table ≡ calculated log b table) × (tableAfter log a table ≡ tableAfter log b table)
-    × (editReply e log a table ≡ editReply e log b table) × (editLog e log a table ≡ editLog e log b table) × (editTable e log a table ≡ editTable e log b table)
-either-length e a b log table h k f = (
-  GradeLaws.calculated-same a b h k f log table,
-  GradeLaws.table-same a b h k f log table,
-  GradeLaws.reply-same a b h k f log table e,
-  GradeLaws.log-same a b h k f log table e,
-  GradeLaws.edit-table-same a b h k f log table e,
+pub either-length : (e : Edit) (a b : List ℕ) (extra : SandRecord) (log table : List ℕ) → length a ≡ plainSize → length b ≡ gradedSize → pileOf a ≡ pileOf b
+    → (calculated log a extra table ≡ calculated log b extra table) × (tableAfter log a extra table ≡ tableAfter log b extra table)
+    × (editReply e log a extra table ≡ editReply e log b extra table) × (editLog e log a table ≡ editLog e log b table) × (editTable e log a extra table ≡ editTable e log b extra table)
+either-length e a b extra log table h k f = (
+  GradeLaws.calculated-same a b h k f extra log table,
+  GradeLaws.table-same a b h k f extra log table,
+  GradeLaws.reply-same a b h k f extra log table e,
+  GradeLaws.log-same a b h k f extra log table e,
+  GradeLaws.edit-table-same a b h k f extra log table e,
 )
 
--- "Up to 3,000 either way, tables are read as before.": answer and slices are those of grade 0, where no cut bares the head (7)
-pub small-grade : (g : ℕ → Soil) (depth : ℕ) (p : Pile) → cutDepth (p .grade) ≤ freeGrade → fillHeight (p .grade) ≤ freeGrade → cutDepth (p .grade) ≤ p .head
-    → (answer g depth p ≡ answer g depth (withGrade 0 p)) × (heldSlices g depth p ≡ heldSlices g depth (withGrade 0 p))
-small-grade g depth p c f h = (GradeLaws.answer-level p c f h g depth, GradeLaws.held-level p c f h g depth)
+-- "Up to 3,000 either way, tables are read as before.": answer and slices are those of grade 0, where no cut bares the head (7). A sand tip's h is
+-- less every cut (02 (iv)), so there it is of fills
+pub small-grade : (g : ℕ → Soil) (depth : ℕ) (p : Pile) (extra : SandRecord) → cutDepth (p .grade) ≤ freeGrade → fillHeight (p .grade) ≤ freeGrade → cutDepth (p .grade) ≤ p .head
+    → (sand (g (belowTip p)) ≡ true → cutDepth (p .grade) ≡ 0)
+    → (answer g depth p extra ≡ answer g depth (withGrade 0 p) extra) × (heldSlices g depth p extra ≡ heldSlices g depth (withGrade 0 p) extra)
+small-grade g depth p extra c f h t = (GradeLaws.answer-level p c f h g depth extra t, GradeLaws.held-level p c f h g depth extra t)
 
 -- Request (iii) of 02. "Show from the row, tip and slice limits that 83 places always do.": in a log of at most n rows that goes down to the
 -- tip, a shaft down to at most 40,000 mm has at most n + 19 slices, for every n: 83 for 64 rows
@@ -261,9 +266,24 @@ pub always-room : (rs : List Row) (p : Pile) (n : ℕ) → length rs ≤ n → p
 always-room rs p n k d h = RoomLaws.slices-room rs p n k d h
 
 -- so what is held of lent bytes has places in the table that goes with the log
-pub slices-have-places : (log pile table : List ℕ) → LentPassed log pile table → length (heldSlices (soilAt (rowsOf log)) (depthOf (rowsOf log)) (pileOf pile)) ≤ placesFor (limitOf log)
-slices-have-places log pile table h = Room.places-enough log pile table h
+pub slices-have-places : (log pile : List ℕ) (extra : SandRecord) (table : List ℕ) → LentPassed log pile table → length (heldSlices (soilAt (rowsOf log)) (depthOf (rowsOf log)) (pileOf pile) extra) ≤ placesFor (limitOf log)
+slices-have-places log pile extra table h = Room.places-enough log pile extra table h
 
 -- and, whatever is lent, a calculation and an edit leave the table as long as it was
-pub table-keeps-its-length : (e : Edit) (log pile table : List ℕ) → (length (tableAfter log pile table) ≡ length table) × (length (editTable e log pile table) ≡ length table)
-table-keeps-its-length e log pile table = (Room.calculation-long log pile table, Room.edit-long e log pile table)
+pub table-keeps-its-length : (e : Edit) (log pile : List ℕ) (extra : SandRecord) (table : List ℕ) → (length (tableAfter log pile extra table) ≡ length table) × (length (editTable e log pile extra table) ≡ length table)
+table-keeps-its-length e log pile extra table = (Room.calculation-long log pile extra table, Room.edit-long e log pile extra table)
+
+-- Request (iv) of 02. "The record counts as part of the pile record in demand 3": every theorem above has it. Beside them:
+
+-- "ignored over clay": whatever record comes, the answer and the slices are the same
+pub record-ignored-over-clay : (g : ℕ → Soil) (depth : ℕ) (p : Pile) (x y : SandRecord) → sand (g (belowTip p)) ≡ false
+    → (answer g depth p x ≡ answer g depth p y) × (heldSlices g depth p x ≡ heldSlices g depth p y)
+record-ignored-over-clay g depth p x y h = (SandLaws.answer-alike g depth p x y h, SandLaws.slices-alike g depth p x y h)
+
+-- "R is capped by table 7.2 there"
+pub sand-below-cap : (p : Pile) (extra : SandRecord) (s : Soil) → sand s ≡ true → resistance p extra s ≤ sandCap (s .kind) (tipOf p)
+sand-below-cap p extra s h = SandLaws.below-cap p extra s h
+
+-- "A sand tip's capacity takes × 1": whatever its saturation
+pub sand-takes-all : (s : Soil) (n : ℕ) → sand s ≡ true → capacityOf s n ≡ n
+sand-takes-all s n h = SandLaws.takes-all s n h

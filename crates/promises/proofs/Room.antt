@@ -5,6 +5,7 @@ use mathlib.Core.List.{List}
 use Prim.Native.Nat.{ℕ, _≤_}
 use native.Mathlib.Omega.{arith}
 use lib.ListN.{length}
+use Rattle.rules.specs.declared.SandRecord.{SandRecord}
 use Rattle.rules.specs.Base.{pick, refuses}
 use Rattle.rules.specs.Limits.{limitOf, placesFor, tableSize}
 use Rattle.rules.specs.Packed.{rowsOf, pileOf}
@@ -20,29 +21,29 @@ use Rattle.edit_reply.proofs.ReplyLaws.{allowed}
 use Rattle.promises.proofs.AcceptedEdits.{lent-form, left-form, lent-log}
 
 -- of lent bytes past checks 1 to 4
-pub places-enough : (log pile table : List ℕ) → LentPassed log pile table → length (heldSlices (soilAt (rowsOf log)) (depthOf (rowsOf log)) (pileOf pile)) ≤ placesFor (limitOf log)
+pub places-enough : (log pile : List ℕ) (extra : SandRecord) (table : List ℕ) → LentPassed log pile table → length (heldSlices (soilAt (rowsOf log)) (depthOf (rowsOf log)) (pileOf pile) extra) ≤ placesFor (limitOf log)
 unfolding heldSlicesOf
-places-enough log pile table h = log-room log pile (lent-log log pile table h)
+places-enough log pile extra table h = log-room log pile extra (lent-log log pile table h)
 
 -- the table of a log past its checks has the length that goes with it
-pub fresh-long : (log pile : List ℕ) → Passed log → length (freshTable log pile) ≡ tableSize (limitOf log)
+pub fresh-long : (log pile : List ℕ) (extra : SandRecord) → Passed log → length (freshTable log pile extra) ≡ tableSize (limitOf log)
 unfolding freshTable
-fresh-long log pile p =
-    let cs = heldSlicesOf (rowsOf log) (pileOf pile) in
-    filled-long (tableSize (limitOf log)) cs _ (length cs) (omega (arith, log-room log pile p)) (refl, refl)
+fresh-long log pile extra p =
+    let cs = heldSlicesOf (rowsOf log) (pileOf pile) extra in
+    filled-long (tableSize (limitOf log)) cs _ (length cs) (omega (arith, log-room log pile extra p)) (refl, refl)
 
-pub calculation-long : (log pile table : List ℕ) → length (tableAfter log pile table) ≡ length table
+pub calculation-long : (log pile : List ℕ) (extra : SandRecord) (table : List ℕ) → length (tableAfter log pile extra table) ≡ length table
 unfolding tableAfter
-calculation-long log pile table = go (refuses (lentChecks log pile table)) refl
+calculation-long log pile extra table = go (refuses (lentChecks log pile table)) refl
   where
-    go : (t : Bool) → refuses (lentChecks log pile table) ≡ t → length (pick t table (freshTable log pile)) ≡ length table
+    go : (t : Bool) → refuses (lentChecks log pile table) ≡ t → length (pick t table (freshTable log pile extra)) ≡ length table
     go true e = refl
-    go false e = fresh-long log pile (lent-log log pile table e) ∙ sym (lent-form log pile table e)
+    go false e = fresh-long log pile extra (lent-log log pile table e) ∙ sym (lent-form log pile table e)
 
-pub edit-long : (e : Edit) (log pile table : List ℕ) → length (editTable e log pile table) ≡ length table
+pub edit-long : (e : Edit) (log pile : List ℕ) (extra : SandRecord) (table : List ℕ) → length (editTable e log pile extra table) ≡ length table
 unfolding editTable
-edit-long e log pile table = go (refuses (editChecks e log pile table)) refl
+edit-long e log pile extra table = go (refuses (editChecks e log pile table)) refl
   where
-    go : (t : Bool) → refuses (editChecks e log pile table) ≡ t → length (pick t table (freshTable (editedLog e log) pile)) ≡ length table
+    go : (t : Bool) → refuses (editChecks e log pile table) ≡ t → length (pick t table (freshTable (editedLog e log) pile extra)) ≡ length table
     go true h = refl
-    go false h = fresh-long (editedLog e log) pile (allowed e log pile table h .left .passed) ∙ sym (left-form e log pile table h)
+    go false h = fresh-long (editedLog e log) pile extra (allowed e log pile table h .left .passed) ∙ sym (left-form e log pile table h)

@@ -6,6 +6,7 @@ use native.Mathlib.Omega.{arith}
 use lib.ListN.{length, drop, replicate, length-append, length-replicate}
 use borrow.Author.Tests.{lt-ltb}
 use Rattle.rules.specs.declared.Slice.{Slice}
+use Rattle.rules.specs.declared.SandRecord.{SandRecord}
 use Rattle.rules.specs.Widths.{Fits}
 use Rattle.rules.specs.Records.{sliceSize, sliceWidths, sliceFields}
 use Rattle.rules.specs.Limits.{limitOf, placesFor}
@@ -55,8 +56,8 @@ kept-of places cs lent f h =
     rw (e, long) (in-places cs m lent f)
 
 -- of the table that a log past its checks gives
-pub kept-is : (log pile table : List ℕ) → Passed log → kept (usedSlices log pile) (freshTable log pile) table ≡ keptOf (freshTable log pile) table
+pub kept-is : (log pile : List ℕ) (extra : SandRecord) (table : List ℕ) → Passed log → kept (usedSlices log pile extra) (freshTable log pile extra) table ≡ keptOf (freshTable log pile extra) table
 unfolding freshTable
-kept-is log pile table p =
-    let cs = heldSlicesOf (rowsOf log) (pileOf pile) in
-    sym (kept-of (placesFor (limitOf log)) cs table (rows-fit (rowsOf log) pile) (log-room log pile p))
+kept-is log pile extra table p =
+    let cs = heldSlicesOf (rowsOf log) (pileOf pile) extra in
+    sym (kept-of (placesFor (limitOf log)) cs table (rows-fit (rowsOf log) pile extra) (log-room log pile extra p))

@@ -3,37 +3,54 @@ use rules::Answer;
 use rules::LogRead;
 use rules::Pile;
 use rules::PileRead;
+use rules::SandFields;
 use rules::SliceRead;
 ghost use mathlib.Core.Path.{_≡_};
 ghost use Rattle.rules.specs.Edits.{asked};
 ghost use Rattle.rules.specs.Reading.{readLog, readPile, readSlice, packLogCheck, packedLog, pileOfRead, packPileCheck, packedPile};
+ghost use Rattle.rules.specs.SandTips.{sandFrom};
 ghost use Rattle.rules.specs.Answers.{refused};
 ghost use Rattle.rules.specs.Calculation.{calculated, tableAfter};
 ghost use Rattle.rules.specs.EditReplies.{editReply, editLog, editTable};
 
 #[no_mangle]
-pub extern "C" fn psamathyr_calculate(log: &[u8], pile: &[u8], table: &mut [u8]) -> Answer
-    ensures reply { λ r. ⌜ r ≡ calculated (now (log .entry)) (now (pile .entry)) (now (table .entry)) ⌝ }
-    ensures table { λ _. ⌜ now (table .exit) ≡ tableAfter (now (log .entry)) (now (pile .entry)) (now (table .entry)) ⌝ }
+pub extern "C" fn psamathyr_calculate(
+    log: &[u8],
+    pile: &[u8],
+    sand: SandFields,
+    table: &mut [u8],
+) -> Answer
+    ensures reply { λ r. ⌜ r ≡ calculated (now (log .entry)) (now (pile .entry)) (sandFrom sand) (now (table .entry)) ⌝ }
+    ensures table { λ _. ⌜ now (table .exit) ≡ tableAfter (now (log .entry)) (now (pile .entry)) (sandFrom sand) (now (table .entry)) ⌝ }
 {
-    answer_calculation::calculate(log, pile, table)
+    answer_calculation::calculate(log, pile, record_sand::sand_given(sand), table)
 }
 
 #[no_mangle]
 pub extern "C" fn psamathyr_edit(
     log: &mut [u8],
     pile: &[u8],
+    sand: SandFields,
     table: &mut [u8],
     kind: u32,
     k: u32,
     x: u32,
     row: &[u8],
 ) -> Answer
-    ensures reply { λ r. ⌜ r ≡ editReply (asked kind k x (now (row .entry))) (now (log .entry)) (now (pile .entry)) (now (table .entry)) ⌝ }
+    ensures reply { λ r. ⌜ r ≡ editReply (asked kind k x (now (row .entry))) (now (log .entry)) (now (pile .entry)) (sandFrom sand) (now (table .entry)) ⌝ }
     ensures log { λ _. ⌜ now (log .exit) ≡ editLog (asked kind k x (now (row .entry))) (now (log .entry)) (now (pile .entry)) (now (table .entry)) ⌝ }
-    ensures table { λ _. ⌜ now (table .exit) ≡ editTable (asked kind k x (now (row .entry))) (now (log .entry)) (now (pile .entry)) (now (table .entry)) ⌝ }
+    ensures table { λ _. ⌜ now (table .exit) ≡ editTable (asked kind k x (now (row .entry))) (now (log .entry)) (now (pile .entry)) (sandFrom sand) (now (table .entry)) ⌝ }
 {
-    edit_reply::edit(log, pile, table, kind, k, x, row)
+    edit_reply::edit(
+        log,
+        pile,
+        record_sand::sand_given(sand),
+        table,
+        kind,
+        k,
+        x,
+        row,
+    )
 }
 
 #[no_mangle]

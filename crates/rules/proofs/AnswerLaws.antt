@@ -13,6 +13,7 @@ use Rattle.rules.specs.declared.Pile.{Pile}
 use Rattle.rules.specs.declared.Slice.{Slice}
 use Rattle.rules.specs.declared.Answer.{Answer}
 use Rattle.rules.specs.declared.Refusal.{Refusal}
+use Rattle.rules.specs.declared.SandRecord.{SandRecord}
 use Rattle.rules.specs.Base.{pick, refuses, first, when}
 use Rattle.rules.specs.Limits.{tipLimit}
 use Rattle.rules.specs.Grades.{cutDepth}
@@ -58,55 +59,56 @@ clear depth p e =
     }
 
 -- a refusal by 5 to 8 asks for nothing else
-early-alone : (depth : ℕ) (at at′ : Soil) (top top′ : ℕ) (cut cut′ : List Slice) (p : Pile) → refuses (early depth p) ≡ true
-    → (answerFrom depth at top cut p ≡ answerFrom depth at′ top′ cut′ p) × (slicesFrom depth at top cut p ≡ slicesFrom depth at′ top′ cut′ p)
+early-alone : (depth : ℕ) (at at′ : Soil) (top top′ : ℕ) (cut cut′ : List Slice) (p : Pile) (extra : SandRecord) → refuses (early depth p) ≡ true
+    → (answerFrom depth at top cut p extra ≡ answerFrom depth at′ top′ cut′ p extra) × (slicesFrom depth at top cut p extra ≡ slicesFrom depth at′ top′ cut′ p extra)
 unfolding answerFrom slicesFrom checksFrom first
-early-alone depth at at′ top top′ cut cut′ p h = (simp h, simp h)
+early-alone depth at at′ top top′ cut cut′ p extra h = (simp h, simp h)
 
 module _ (rs : List Row) (p : Pile) (w : Positive rs) where
   pub cuts-are : Clear (depthOf rs) p → cutsOf rs p ≡ sliceEach p (pieces (soilAt rs) (p .head) (p .tip))
   unfolding pieces
   cuts-are c = ap (sliceEach p) (by-rows rs (p .tip - p .head) (p .head) (p .tip - p .head) w (omega arith) (omega (arith, c .order, c .deep)))
 
-  both-rows : (answerRows rs p ≡ answerOf rs p) × (slicesRows rs p ≡ heldSlicesOf rs p)
+module _ (rs : List Row) (p : Pile) (extra : SandRecord) (w : Positive rs) where
+  both-rows : (answerRows rs p extra ≡ answerOf rs p extra) × (slicesRows rs p extra ≡ heldSlicesOf rs p extra)
   unfolding answerRows answerOf slicesRows heldSlicesOf
   both-rows =
-      rw (answer-grouped (soilAt rs) (depthOf rs) p, slices-grouped (soilAt rs) (depthOf rs) p)
+      rw (answer-grouped (soilAt rs) (depthOf rs) p extra, slices-grouped (soilAt rs) (depthOf rs) p extra)
       (⊎-elim
-      (λ (h : refuses (early (depthOf rs) p) ≡ true). early-alone (depthOf rs) _ _ _ _ _ _ p h)
+      (λ (h : refuses (early (depthOf rs) p) ≡ true). early-alone (depthOf rs) _ _ _ _ _ _ p extra h)
       (λ (h : refuses (early (depthOf rs) p) ≡ false).
       let c : Clear (depthOf rs) p = clear (depthOf rs) p h in
       let t : topAt rs (belowTip p) ≡ runTop (soilAt rs) (soilAt rs (belowTip p)) (belowTip p) = top-is rs (belowTip p) w (omega (arith, c .deep)) in (
-        ap₂ (λ (t : ℕ) (l : List Slice). answerFrom (depthOf rs) (soilAt rs (belowTip p)) t l p) t (cuts-are c),
-        ap₂ (λ (t : ℕ) (l : List Slice). slicesFrom (depthOf rs) (soilAt rs (belowTip p)) t l p) t (cuts-are c),
+        ap₂ (λ (t : ℕ) (l : List Slice). answerFrom (depthOf rs) (soilAt rs (belowTip p)) t l p extra) t (cuts-are rs p w c),
+        ap₂ (λ (t : ℕ) (l : List Slice). slicesFrom (depthOf rs) (soilAt rs (belowTip p)) t l p extra) t (cuts-are rs p w c),
       ))
       (sure (refuses (early (depthOf rs) p))))
 
   -- typing does not matter: the answer along the rows is the answer of the ground
-  pub answer-by-rows : answerRows rs p ≡ answerOf rs p
+  pub answer-by-rows : answerRows rs p extra ≡ answerOf rs p extra
   answer-by-rows = both-rows .0
 
-  pub slices-by-rows : slicesRows rs p ≡ heldSlicesOf rs p
+  pub slices-by-rows : slicesRows rs p extra ≡ heldSlicesOf rs p extra
   slices-by-rows = both-rows .1
 
 -- Two logs that are equally deep and agree at every millimetre have equal answers and equal slices for the same pile record.
-pub only-millimetres : (rs ts : List Row) (p : Pile) → Agree rs ts → (answerOf rs p ≡ answerOf ts p) × (heldSlicesOf rs p ≡ heldSlicesOf ts p)
+pub only-millimetres : (rs ts : List Row) (p : Pile) (extra : SandRecord) → Agree rs ts → (answerOf rs p extra ≡ answerOf ts p extra) × (heldSlicesOf rs p extra ≡ heldSlicesOf ts p extra)
 unfolding answerOf heldSlicesOf
-only-millimetres rs ts p h = (
-  ap₂ (λ (g : ℕ → Soil) (d : ℕ). answer g d p) (one-ground rs ts h) (h .0),
-  ap₂ (λ (g : ℕ → Soil) (d : ℕ). heldSlices g d p) (one-ground rs ts h) (h .0),
+only-millimetres rs ts p extra h = (
+  ap₂ (λ (g : ℕ → Soil) (d : ℕ). answer g d p extra) (one-ground rs ts h) (h .0),
+  ap₂ (λ (g : ℕ → Soil) (d : ℕ). heldSlices g d p extra) (one-ground rs ts h) (h .0),
 )
 
--- under 5 to 12 every number is zero, and no slice is held
-module _ (g : ℕ → Soil) (depth : ℕ) (p : Pile) where
+-- under 5 to 12 and 17 every number is zero, and no slice is held
+module _ (g : ℕ → Soil) (depth : ℕ) (p : Pile) (extra : SandRecord) where
   refused-by : (t : Bool) (r : Refusal) (full : Answer) → refuses (full .refusal) ≡ false → t ≡ refuses r → refuses (pick t (refused r) full .refusal) ≡ true
       → (pick t (refused r) full ≡ refused (pick t (refused r) full .refusal)) × (pick t [] (shaftSlices g p) ≡ [])
   refused-by true r full f e h = (refl, refl)
   refused-by false r full f e h = absurd (true≢false (sym h ∙ f))
 
-  pub refused-ground : refuses (answer g depth p .refusal) ≡ true → (answer g depth p ≡ refused (answer g depth p .refusal)) × (heldSlices g depth p ≡ [])
+  pub refused-ground : refuses (answer g depth p extra .refusal) ≡ true → (answer g depth p extra ≡ refused (answer g depth p extra .refusal)) × (heldSlices g depth p extra ≡ [])
   unfolding answer heldSlices numbers
   refused-ground h =
-      let r : Refusal = groundChecks g depth p in
+      let r : Refusal = groundChecks g depth p extra in
       let soil = g (belowTip p) in
-      refused-by (refuses r) r (numbers soil p (resistance p soil) (lineOf (shaftSlices g p))) refl refl h
+      refused-by (refuses r) r (numbers soil p (resistance p extra soil) (lineOf (shaftSlices g p))) refl refl h

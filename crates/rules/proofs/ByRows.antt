@@ -6,6 +6,7 @@ use lib.Dec.{ltb}
 use Rattle.rules.specs.declared.Row.{Row}
 use Rattle.rules.specs.declared.Soil.{Soil}
 use Rattle.rules.specs.declared.Pile.{Pile}
+use Rattle.rules.specs.declared.SandRecord.{SandRecord}
 use Rattle.rules.specs.declared.Slice.{Slice}
 use Rattle.rules.specs.declared.Answer.{Answer}
 use Rattle.rules.specs.Base.{pick}
@@ -59,8 +60,8 @@ topAt rs m = topFrom rs none 0 0 m
 abbrev pub cutsOf : List Row → Pile → List Slice
 cutsOf rs p = sliceEach p (cuts rs (p .tip - p .head) (p .head) (p .tip - p .head))
 
-unfoldable pub answerRows : List Row → Pile → Answer
-answerRows rs p = answerFrom (depthOf rs) (soilAt rs (belowTip p)) (topAt rs (belowTip p)) (cutsOf rs p) p
+unfoldable pub answerRows : List Row → Pile → SandRecord → Answer
+answerRows rs p extra = answerFrom (depthOf rs) (soilAt rs (belowTip p)) (topAt rs (belowTip p)) (cutsOf rs p) p extra
 
-unfoldable pub slicesRows : List Row → Pile → List Slice
-slicesRows rs p = slicesFrom (depthOf rs) (soilAt rs (belowTip p)) (topAt rs (belowTip p)) (cutsOf rs p) p
+unfoldable pub slicesRows : List Row → Pile → SandRecord → List Slice
+slicesRows rs p extra = slicesFrom (depthOf rs) (soilAt rs (belowTip p)) (topAt rs (belowTip p)) (cutsOf rs p) p extra

@@ -1,6 +1,6 @@
 -- A pile record's grade: behind its other fields, and 0 where the record ends before it; and readings that a small grade does not move.
 use mathlib.Core.Path.{_≡_, refl, ap, ap₂, sym, _∙_}
-use mathlib.Core.Bool.{Bool}
+use mathlib.Core.Bool.{Bool, true, false}
 use mathlib.Core.List.{List, [], _∷_, _++_}
 use Prim.Native.Nat.{ℕ, _+_, _*_, _/_, _%_, _<_, _≤_}
 use native.Mathlib.Omega.{arith}
@@ -10,16 +10,19 @@ use lib.ListN.{length, getD, replicate, List·getD-eq-default}
 use Rattle.rules.specs.declared.Soil.{Soil}
 use Rattle.rules.specs.declared.Pile.{Pile}
 use Rattle.rules.specs.declared.Slice.{Slice}
+use Rattle.rules.specs.declared.SandRecord.{SandRecord}
+use Rattle.rules.specs.declared.SandRecord.the-variants.{Absent, Given}
 use Rattle.rules.specs.Widths.{fieldsOf}
 use Rattle.rules.specs.Records.{plainWidths, plainSize, gradedWidths, gradedSize, pileFrom}
 use Rattle.rules.specs.Limits.{tipLimit, freeGrade}
 use Rattle.rules.specs.Grades.{cutDepth, fillHeight, lowering, raising, asRead, withGrade}
 use Rattle.rules.specs.Packed.{numberAt, pileOf}
 use Rattle.rules.specs.Pieces.{Piece, pieces, runTop}
-use Rattle.rules.specs.Numbers.{sand, friction, factor, sliceOf, sliceEach, belowTip, shaftSlices, tipRead, isDash, pascals, resistance, lineOf, tipForce, shaftForce, upliftOf}
-use Rattle.rules.specs.Base.{pick, either, refuses, when, inOrder}
+use Rattle.rules.specs.SandTips.{sandResistance}
+use Rattle.rules.specs.Numbers.{sand, friction, factor, sliceOf, sliceEach, belowTip, tipOf, tipFromCut, shaftSlices, tipRead, isDash, pascals, sandPascals, resistance, lineOf, tipForce, shaftForce, upliftOf}
+use Rattle.rules.specs.Base.{pick, both, either, neg, refuses, when, inOrder}
 use Rattle.rules.specs.Edits.{Edit}
-use Rattle.rules.specs.Checks.{lengthsWrong, wrongPileField, sectionCheck, methodWrong, depthsWrong, logShort, seatShort, tooSoft, lentChecks, groundChecks, editChecks}
+use Rattle.rules.specs.Checks.{lengthsWrong, wrongPileField, sectionCheck, methodWrong, depthsWrong, logShort, sandUnread, seatShort, recordWrong, sandWrong, tooSoft, lentChecks, groundChecks, editChecks}
 use Rattle.rules.specs.Answers.{refused, numbers, answer, heldSlices}
 use Rattle.rules.specs.Calculation.{freshAnswer, freshTable, calculated, tableAfter}
 use Rattle.rules.specs.EditReplies.{editAnswer, editReply, editLog, editTable}
@@ -84,14 +87,39 @@ module _ (p : Pile) (c : cutDepth (p .grade) ≤ freeGrade) (f : fillHeight (p .
         let bare : ltb (p .head) (cutDepth (p .grade)) ≡ ltb (p .head) (cutDepth 0) = le-ltb _ _ h ∙ sym (le-ltb (p .head) (cutDepth 0) (rw cut-none (omega arith))) in
         ap₂ (λ (x : Bool) (y : ℕ). either (leb (p .tip) (p .head)) (either (ltb (p .tip) 3000) (either (ltb tipLimit (p .tip)) (either x (ltb tipLimit y))))) bare (as-level 1 (p .tip))
 
-    module _ (g : ℕ → Soil) (depth : ℕ) where
+    -- of a sand tip, where there is no cut at all: "Here h is the tip depth, less the cut if there is one."
+    module _ (g : ℕ → Soil) (depth : ℕ) (extra : SandRecord) (t : sand (g (belowTip p)) ≡ true → cutDepth (p .grade) ≡ 0) where
       abbrev soil : Soil
       soil = g (belowTip p)
+
+      height-level : sand soil ≡ true → tipFromCut p ≡ tipFromCut level
+      height-level s = rw (t s, cut-none)
+
+      off-level : sandWrong soil p extra ≡ sandWrong soil level extra
+      off-level = go (sand soil) extra height-level
+        where
+          go : (b : Bool) (x : SandRecord) → (b ≡ true → tipFromCut p ≡ tipFromCut level) → both b (recordWrong p x) ≡ both b (recordWrong level x)
+          go false x k = refl
+          go true Absent k = refl
+          go true (Given r) k = rw (k refl)
+
+      resistance-level : resistance p extra soil ≡ resistance level extra soil
+      unfolding resistance
+      resistance-level = go (sand soil) extra height-level
+        where
+          clay : pascals (tipRead (tipOf p) (soil .index)) ≡ pascals (tipRead (tipOf level) (soil .index))
+          clay = ap (λ (d : ℕ). pascals (tipRead d (soil .index))) (as-level 1 (p .tip))
+
+          go : (b : Bool) (x : SandRecord) → (b ≡ true → tipFromCut p ≡ tipFromCut level)
+              → pick b (sandPascals p x soil) (pascals (tipRead (tipOf p) (soil .index))) ≡ pick b (sandPascals level x soil) (pascals (tipRead (tipOf level) (soil .index)))
+          go false x k = clay
+          go true Absent k = refl
+          go true (Given r) k = ap₂ (λ (h d : ℕ). sandResistance r h (p .a) (soil .kind) d) (k refl) (as-level 1 (p .tip))
 
       cut-level : shaftSlices g p ≡ shaftSlices g level
       cut-level = slices-level (pieces g (p .head) (p .tip))
 
-      checks-level : groundChecks g depth p ≡ groundChecks g depth level
+      checks-level : groundChecks g depth p extra ≡ groundChecks g depth level extra
       unfolding groundChecks sectionCheck wrongPileField
       checks-level = λ i.
           inOrder
@@ -99,32 +127,33 @@ module _ (p : Pile) (c : cutDepth (p .grade) ≤ freeGrade) (f : fillHeight (p .
           when (methodWrong p) 6 ∷
           when (depths-level i) 7 ∷
           when (logShort depth p) 8 ∷
-          when (sand soil) 9 ∷
+          when (sandUnread soil p extra) 9 ∷
           when (seatShort (runTop g soil (belowTip p)) p) 10 ∷
+          when (off-level i) 17 ∷
           when (tooSoft soil) 11 ∷
-          when (isDash (tipRead (as-level 1 (p .tip) i) (soil .index))) 12 ∷
+          when (both (neg (sand soil)) (isDash (tipRead (as-level 1 (p .tip) i) (soil .index)))) 12 ∷
           [])
 
-      pub answer-level : answer g depth p ≡ answer g depth level
-      unfolding answer numbers resistance tipForce shaftForce upliftOf
+      pub answer-level : answer g depth p extra ≡ answer g depth level extra
+      unfolding answer numbers tipForce shaftForce upliftOf
       answer-level = λ i.
           pick (refuses (checks-level i)) (refused (checks-level i))
-          (numbers soil p (pascals (tipRead (as-level 1 (p .tip) i) (soil .index))) (lineOf (cut-level i)))
+          (numbers soil p (resistance-level i) (lineOf (cut-level i)))
 
-      pub held-level : heldSlices g depth p ≡ heldSlices g depth level
+      pub held-level : heldSlices g depth p extra ≡ heldSlices g depth level extra
       unfolding heldSlices
       held-level = λ i. pick (refuses (checks-level i)) [] (cut-level i)
 
 -- A record of eight bytes and one of ten that hold the same fields: no reply, and no byte, tells them apart.
-module _ (a b : List ℕ) (h : length a ≡ plainSize) (k : length b ≡ gradedSize) (e : pileOf a ≡ pileOf b) (log table : List ℕ) where
+module _ (a b : List ℕ) (h : length a ≡ plainSize) (k : length b ≡ gradedSize) (e : pileOf a ≡ pileOf b) (extra : SandRecord) (log table : List ℕ) where
   lent-same : lengthsWrong log a table ≡ lengthsWrong log b table
   lent-same = rw (h, k)
 
-  pub calculated-same : calculated log a table ≡ calculated log b table
+  pub calculated-same : calculated log a extra table ≡ calculated log b extra table
   unfolding calculated lentChecks freshAnswer
   calculated-same = rw (lent-same, e)
 
-  pub table-same : tableAfter log a table ≡ tableAfter log b table
+  pub table-same : tableAfter log a extra table ≡ tableAfter log b extra table
   unfolding tableAfter lentChecks freshTable
   table-same = rw (lent-same, e)
 
@@ -133,7 +162,7 @@ module _ (a b : List ℕ) (h : length a ≡ plainSize) (k : length b ≡ gradedS
     unfolding editChecks
     edit-same = rw lent-same
 
-    pub reply-same : editReply d log a table ≡ editReply d log b table
+    pub reply-same : editReply d log a extra table ≡ editReply d log b extra table
     unfolding editReply editAnswer freshTable freshAnswer
     reply-same = rw (edit-same, e)
 
@@ -141,6 +170,6 @@ module _ (a b : List ℕ) (h : length a ≡ plainSize) (k : length b ≡ gradedS
     unfolding editLog
     log-same = rw edit-same
 
-    pub edit-table-same : editTable d log a table ≡ editTable d log b table
+    pub edit-table-same : editTable d log a extra table ≡ editTable d log b extra table
     unfolding editTable freshTable
     edit-table-same = rw (edit-same, e)

@@ -16,6 +16,7 @@ use Rattle.rules.specs.Grades.{cutDepth, fillHeight}
 use Rattle.rules.specs.Packed.{numberAt, rowsFrom, rowsOf, pileOf, rowBytes, pileBytes, sliceBytes, placesBytes, logFor, slicesBytes, tableBytes}
 use Rattle.rules.specs.Ground.{depthOf, same, soilAt}
 use Rattle.rules.specs.Tables.{rowFor, spotOf, weighed, frictionAt, dashAt, tipAt}
+use Rattle.rules.specs.SandTips.{onScale, atAngle, ofTenths, ofHundredths, widthTerm, depthTerm, sandFormula, sandCap, sandResistance}
 use Rattle.rules.specs.Numbers.{friction, factor, sliceOf, sliceEach, frictionSum, tipRead, resistance, tipForce, shaftForce, capacityOf, upliftOf}
 use Rattle.rules.specs.Edits.{stands, editedRows, editedLog}
 use Rattle.rules.specs.Checks.{unusedWrong, wrongField, firstWrong, newRowCheck, wrongPileField, sectionCheck, editChecks}
@@ -54,14 +55,14 @@ abbrev pileNow : WorkedEdit → Pile
 pileNow c = pileOf (pileRecord (c .pile))
 
 abbrev foundRows : WorkedEdit → List (List ℕ)
-foundRows c = after c (refuses (checked c)) (answerRows (rowsNow c) (pileNow c)) (slicesRows (rowsNow c) (pileNow c))
+foundRows c = after c (refuses (checked c)) (answerRows (rowsNow c) (pileNow c) (c .extra)) (slicesRows (rowsNow c) (pileNow c) (c .extra))
 
 by-rows : (c : WorkedEdit) (t : Bool) → T (either t (positive (rowsNow c)))
-    → after c t (answerOf (rowsNow c) (pileNow c)) (heldSlicesOf (rowsNow c) (pileNow c)) ≡ after c t (answerRows (rowsNow c) (pileNow c)) (slicesRows (rowsNow c) (pileNow c))
+    → after c t (answerOf (rowsNow c) (pileNow c) (c .extra)) (heldSlicesOf (rowsNow c) (pileNow c) (c .extra)) ≡ after c t (answerRows (rowsNow c) (pileNow c) (c .extra)) (slicesRows (rowsNow c) (pileNow c) (c .extra))
 by-rows c true h = refl
 by-rows c false h =
     let w = are-positive (rowsNow c) h in
-    ap₂ (after c false) (sym (answer-by-rows (rowsNow c) (pileNow c) w)) (sym (slices-by-rows (rowsNow c) (pileNow c) w))
+    ap₂ (after c false) (sym (answer-by-rows (rowsNow c) (pileNow c) (c .extra) w)) (sym (slices-by-rows (rowsNow c) (pileNow c) (c .extra) w))
 
 found-rows : (c : WorkedEdit) → T (either (refuses (checked c)) (positive (rowsNow c))) → foundAfter c ≡ foundRows c
 unfolding editReply editLog editTable editAnswer freshAnswer freshTable
@@ -82,7 +83,7 @@ unfolding limitOf when first allZero numberAt rowsFrom rowsOf rowBytes placesByt
 all-ready = tt
 
 by-computing : map foundRows workedEdits ≡ map rightAfter workedEdits
-unfolding limitOf when first allZero numberAt rowsFrom rowsOf pileOf rowBytes pileBytes sliceBytes placesBytes logFor slicesBytes tableBytes unusedWrong wrongField firstWrong newRowCheck depthOf wrongPileField sectionCheck same soilAt rowFor spotOf weighed frictionAt dashAt tipAt friction factor sliceOf sliceEach frictionSum tipRead resistance tipForce shaftForce capacityOf upliftOf early late pileChecks checksFrom numbers answerFrom slicesFrom stands editedRows editedLog editChecks sameBytes kept lead extent cuts topFrom answerRows slicesRows cutDepth fillHeight
+unfolding limitOf when first allZero numberAt rowsFrom rowsOf pileOf rowBytes pileBytes sliceBytes placesBytes logFor slicesBytes tableBytes unusedWrong wrongField firstWrong newRowCheck depthOf wrongPileField sectionCheck same soilAt rowFor spotOf weighed frictionAt dashAt tipAt friction factor sliceOf sliceEach frictionSum tipRead resistance tipForce shaftForce capacityOf upliftOf early late pileChecks checksFrom numbers answerFrom slicesFrom stands editedRows editedLog editChecks sameBytes kept lead extent cuts topFrom answerRows slicesRows cutDepth fillHeight onScale atAngle ofTenths ofHundredths widthTerm depthTerm sandFormula sandCap sandResistance
 by-computing = refl
 
 -- Each worked edit has the reply, the log and the table that are right.

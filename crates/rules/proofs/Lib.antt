@@ -2,11 +2,13 @@
 pub mod Basics
 pub mod WidthLaws
 pub mod GradeLaws
+pub mod SandLaws
 pub mod RefusalLaws
 pub mod FormLaws
 pub mod PlacesLaws
 pub mod RangeLaws
 pub mod InRangeLaws
+pub mod TipLaws
 pub mod SoundLaws
 pub mod ListedLaws
 pub mod Groups

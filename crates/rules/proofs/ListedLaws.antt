@@ -1,4 +1,4 @@
--- Each check of a call refuses with its own number, in the order that document 01 lists; so a refused edit and a held refusal differ by their number.
+-- Each check of a call refuses with its own number, in the order that documents 01 and 02 list; so a refused edit and a held refusal differ by their number.
 use mathlib.Core.Path.{_≡_, refl}
 use mathlib.Core.Bool.{Bool, true, false}
 use mathlib.Core.Logic.{_⊎_, inl, inr, ⊎-elim}
@@ -9,6 +9,7 @@ use Rattle.rules.specs.declared.Refusal.{Refusal}
 use Rattle.rules.specs.declared.Row.{Row}
 use Rattle.rules.specs.declared.Soil.{Soil}
 use Rattle.rules.specs.declared.Pile.{Pile}
+use Rattle.rules.specs.declared.SandRecord.{SandRecord}
 use Rattle.rules.specs.Base.{pick, both, nothing, refuses, when, first, firstOf, inOrder}
 use Rattle.rules.specs.Packed.{rowAt, rowsOf, pileOf}
 use Rattle.rules.specs.Ground.{soilAt, depthOf}
@@ -45,13 +46,13 @@ unfolding sectionCheck
 section-own p = picked (ltb 0 (wrongPileField p)) 5 _ refl
 
 -- the list of a calculation, and that of an edit
-pub pile-listed : (g : ℕ → Soil) (depth : ℕ) (p : Pile) → Numbered (5 ∷ 6 ∷ 7 ∷ 8 ∷ 9 ∷ 10 ∷ 11 ∷ 12 ∷ []) (fiveOn g depth p)
-pile-listed g depth p =
-    (section-own p, (when-own _ 6, (when-own _ 7, (when-own _ 8, (when-own _ 9, (when-own _ 10, (when-own _ 11, (when-own _ 12, tt))))))))
+pub pile-listed : (g : ℕ → Soil) (depth : ℕ) (p : Pile) (extra : SandRecord) → Numbered (5 ∷ 6 ∷ 7 ∷ 8 ∷ 9 ∷ 10 ∷ 17 ∷ 11 ∷ 12 ∷ []) (fiveOn g depth p extra)
+pile-listed g depth p extra =
+    (section-own p, (when-own _ 6, (when-own _ 7, (when-own _ 8, (when-own _ 9, (when-own _ 10, (when-own _ 17, (when-own _ 11, (when-own _ 12, tt)))))))))
 
-pub calculation-listed : (wrong : Bool) (log : List ℕ) (g : ℕ → Soil) (depth : ℕ) (p : Pile)
-    → Numbered (1 ∷ 2 ∷ 3 ∷ 4 ∷ 5 ∷ 6 ∷ 7 ∷ 8 ∷ 9 ∷ 10 ∷ 11 ∷ 12 ∷ []) (oneToFour wrong log ++ fiveOn g depth p)
-calculation-listed wrong log g depth p = (when-own _ 1, (when-own _ 2, (wrong-own 1 (rowsOf log), (when-own _ 4, pile-listed g depth p))))
+pub calculation-listed : (wrong : Bool) (log : List ℕ) (g : ℕ → Soil) (depth : ℕ) (p : Pile) (extra : SandRecord)
+    → Numbered (1 ∷ 2 ∷ 3 ∷ 4 ∷ 5 ∷ 6 ∷ 7 ∷ 8 ∷ 9 ∷ 10 ∷ 17 ∷ 11 ∷ 12 ∷ []) (oneToFour wrong log ++ fiveOn g depth p extra)
+calculation-listed wrong log g depth p extra = (when-own _ 1, (when-own _ 2, (wrong-own 1 (rowsOf log), (when-own _ 4, pile-listed g depth p extra))))
 
 pub edit-listed : (wrong : Bool) (e : Edit) (log : List ℕ) → Numbered (1 ∷ 2 ∷ 3 ∷ 4 ∷ 13 ∷ 14 ∷ 3 ∷ 4 ∷ []) (oneToFour wrong log ++ thirteenOn e log)
 edit-listed wrong e log = (when-own _ 1, (when-own _ 2, (wrong-own 1 (rowsOf log), (when-own _ 4, (when-own _ 13, (when-own _ 14, (new-own e, (when-own _ 4, tt))))))))
@@ -74,18 +75,18 @@ in-order-own [] (r ∷ rs) h = absurd h
 in-order-own (n ∷ ns) [] h = absurd h
 in-order-own (n ∷ ns) (r ∷ rs) h = first-own n ns r rs h
 
-pub calculation-number : (log pile table : List ℕ) → OneOf (1 ∷ 2 ∷ 3 ∷ 4 ∷ 5 ∷ 6 ∷ 7 ∷ 8 ∷ 9 ∷ 10 ∷ 11 ∷ 12 ∷ []) (calculationChecks log pile table .number) ⊎ (calculationChecks log pile table ≡ nothing)
+pub calculation-number : (log pile : List ℕ) (extra : SandRecord) (table : List ℕ) → OneOf (1 ∷ 2 ∷ 3 ∷ 4 ∷ 5 ∷ 6 ∷ 7 ∷ 8 ∷ 9 ∷ 10 ∷ 17 ∷ 11 ∷ 12 ∷ []) (calculationChecks log pile extra table .number) ⊎ (calculationChecks log pile extra table ≡ nothing)
 unfolding calculationChecks
-calculation-number log pile table =
+calculation-number log pile extra table =
     let g = soilAt (rowsOf log) in
     let depth = depthOf (rowsOf log) in
     let wrong = lengthsWrong log pile table in
-    in-order-own (1 ∷ 2 ∷ 3 ∷ 4 ∷ 5 ∷ 6 ∷ 7 ∷ 8 ∷ 9 ∷ 10 ∷ 11 ∷ 12 ∷ []) (oneToFour wrong log ++ fiveOn g depth (pileOf pile)) (calculation-listed wrong log g depth (pileOf pile))
+    in-order-own (1 ∷ 2 ∷ 3 ∷ 4 ∷ 5 ∷ 6 ∷ 7 ∷ 8 ∷ 9 ∷ 10 ∷ 17 ∷ 11 ∷ 12 ∷ []) (oneToFour wrong log ++ fiveOn g depth (pileOf pile) extra) (calculation-listed wrong log g depth (pileOf pile) extra)
 
 pub edit-number : (e : Edit) (log pile table : List ℕ) → OneOf (1 ∷ 2 ∷ 3 ∷ 4 ∷ 13 ∷ 14 ∷ 3 ∷ 4 ∷ []) (editChecks e log pile table .number) ⊎ (editChecks e log pile table ≡ nothing)
 unfolding editChecks
 edit-number e log pile table = let wrong = editLengthsWrong e log pile table in in-order-own (1 ∷ 2 ∷ 3 ∷ 4 ∷ 13 ∷ 14 ∷ 3 ∷ 4 ∷ []) (oneToFour wrong log ++ thirteenOn e log) (edit-listed wrong e log)
 
-pub ground-number : (g : ℕ → Soil) (depth : ℕ) (p : Pile) → OneOf (5 ∷ 6 ∷ 7 ∷ 8 ∷ 9 ∷ 10 ∷ 11 ∷ 12 ∷ []) (groundChecks g depth p .number) ⊎ (groundChecks g depth p ≡ nothing)
+pub ground-number : (g : ℕ → Soil) (depth : ℕ) (p : Pile) (extra : SandRecord) → OneOf (5 ∷ 6 ∷ 7 ∷ 8 ∷ 9 ∷ 10 ∷ 17 ∷ 11 ∷ 12 ∷ []) (groundChecks g depth p extra .number) ⊎ (groundChecks g depth p extra ≡ nothing)
 unfolding groundChecks
-ground-number g depth p = in-order-own (5 ∷ 6 ∷ 7 ∷ 8 ∷ 9 ∷ 10 ∷ 11 ∷ 12 ∷ []) (fiveOn g depth p) (pile-listed g depth p)
+ground-number g depth p extra = in-order-own (5 ∷ 6 ∷ 7 ∷ 8 ∷ 9 ∷ 10 ∷ 17 ∷ 11 ∷ 12 ∷ []) (fiveOn g depth p extra) (pile-listed g depth p extra)

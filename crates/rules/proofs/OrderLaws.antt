@@ -8,6 +8,7 @@ use Rattle.rules.specs.declared.Answer.{Answer}
 use Rattle.rules.specs.declared.Refusal.{Refusal}
 use Rattle.rules.specs.declared.Soil.{Soil}
 use Rattle.rules.specs.declared.Pile.{Pile}
+use Rattle.rules.specs.declared.SandRecord.{SandRecord}
 use Rattle.rules.specs.Base.{pick, nothing, refuses, first, when, firstOf}
 use Rattle.rules.specs.Packed.{rowsOf, pileOf}
 use Rattle.rules.specs.Ground.{soilAt, depthOf}
@@ -44,32 +45,32 @@ then-refusal r a = go (refuses r)
     go true = refl
     go false = refl
 
-ground-none : (g : ℕ → Soil) (depth : ℕ) (p : Pile) → refuses (groundChecks g depth p) ≡ false → groundChecks g depth p ≡ nothing
+ground-none : (g : ℕ → Soil) (depth : ℕ) (p : Pile) (extra : SandRecord) → refuses (groundChecks g depth p extra) ≡ false → groundChecks g depth p extra ≡ nothing
 unfolding groundChecks
-ground-none g depth p h = last-off _ (_ ∷ _ ∷ _ ∷ _ ∷ _ ∷ _ ∷ []) (when _ 12) (λ k. when-false 12 _ (when-off 11 _ k)) h
+ground-none g depth p extra h = last-off _ (_ ∷ _ ∷ _ ∷ _ ∷ _ ∷ _ ∷ _ ∷ []) (when _ 12) (λ k. when-false 12 _ (when-off 11 _ k)) h
 
-pub answer-refusal : (g : ℕ → Soil) (depth : ℕ) (p : Pile) → answer g depth p .refusal ≡ groundChecks g depth p
+pub answer-refusal : (g : ℕ → Soil) (depth : ℕ) (p : Pile) (extra : SandRecord) → answer g depth p extra .refusal ≡ groundChecks g depth p extra
 unfolding answer numbers
-answer-refusal g depth p =
+answer-refusal g depth p extra =
     let soil = g (belowTip p) in
-    pick-refusal (groundChecks g depth p) (numbers soil p (resistance p soil) (lineOf (shaftSlices g p))) refl (ground-none g depth p)
+    pick-refusal (groundChecks g depth p extra) (numbers soil p (resistance p extra soil) (lineOf (shaftSlices g p))) refl (ground-none g depth p extra)
 
 -- of a calculation: of what is lent, then of the pile in its ground; and as one list
-module _ (log pile table : List ℕ) where
-  pub two-groups : calculated log pile table .refusal ≡ first (lentChecks log pile table) (groundChecks (soilAt (rowsOf log)) (depthOf (rowsOf log)) (pileOf pile))
+module _ (log pile : List ℕ) (extra : SandRecord) (table : List ℕ) where
+  pub two-groups : calculated log pile extra table .refusal ≡ first (lentChecks log pile table) (groundChecks (soilAt (rowsOf log)) (depthOf (rowsOf log)) (pileOf pile) extra)
   unfolding calculated freshAnswer answerOf
-  two-groups = then-refusal (lentChecks log pile table) (freshAnswer log pile) ∙ ap (first (lentChecks log pile table)) (answer-refusal (soilAt (rowsOf log)) (depthOf (rowsOf log)) (pileOf pile))
+  two-groups = then-refusal (lentChecks log pile table) (freshAnswer log pile extra) ∙ ap (first (lentChecks log pile table)) (answer-refusal (soilAt (rowsOf log)) (depthOf (rowsOf log)) (pileOf pile) extra)
 
-  pub calculation-refusal : calculated log pile table .refusal ≡ calculationChecks log pile table
+  pub calculation-refusal : calculated log pile extra table .refusal ≡ calculationChecks log pile extra table
   unfolding calculationChecks lentChecks groundChecks
   calculation-refusal =
       let p = pileOf pile in
-      two-groups ∙ sym (order-append _ (drop 1 (oneToFour (lengthsWrong log pile table) log)) (sectionCheck p) (drop 1 (fiveOn (soilAt (rowsOf log)) (depthOf (rowsOf log)) p)))
+      two-groups ∙ sym (order-append _ (drop 1 (oneToFour (lengthsWrong log pile table) log)) (sectionCheck p) (drop 1 (fiveOn (soilAt (rowsOf log)) (depthOf (rowsOf log)) p extra)))
 
 -- of an edit: its own checks, then those of the pile in the ground that it leaves
-pub edit-refusal : (e : Edit) (log pile table : List ℕ)
-    → editReply e log pile table .refusal ≡ first (editChecks e log pile table) (groundChecks (soilAt (rowsOf (editedLog e log))) (depthOf (rowsOf (editedLog e log))) (pileOf pile))
+pub edit-refusal : (e : Edit) (log pile : List ℕ) (extra : SandRecord) (table : List ℕ)
+    → editReply e log pile extra table .refusal ≡ first (editChecks e log pile table) (groundChecks (soilAt (rowsOf (editedLog e log))) (depthOf (rowsOf (editedLog e log))) (pileOf pile) extra)
 unfolding editReply editAnswer freshAnswer answerOf
-edit-refusal e log pile table =
-    then-refusal (editChecks e log pile table) (editAnswer (editedLog e log) pile table)
-    ∙ ap (first (editChecks e log pile table)) (answer-refusal _ _ (pileOf pile))
+edit-refusal e log pile extra table =
+    then-refusal (editChecks e log pile table) (editAnswer (editedLog e log) pile extra table)
+    ∙ ap (first (editChecks e log pile table)) (answer-refusal _ _ (pileOf pile) extra)

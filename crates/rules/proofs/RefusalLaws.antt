@@ -72,6 +72,10 @@ pub neg-true : (t : Bool) → neg t ≡ true → t ≡ false
 neg-true true e = sym e
 neg-true false e = refl
 
+pub neg-twice : (t : Bool) → t ≡ neg (neg t)
+neg-twice true = refl
+neg-twice false = refl
+
 pub within-low : (low high n : ℕ) → within low high n ≡ true → low ≤ n
 within-low low high n e = ltb-false n low (either-left (ltb n low) (ltb high n) (neg-true _ e))
 

@@ -20,6 +20,7 @@ use Rattle.rules.specs.Calculation.{heldSlicesOf}
 use Rattle.rules.specs.declared.Soil.{Soil}
 use Rattle.rules.specs.declared.Row.{Row}
 use Rattle.rules.specs.declared.Pile.{Pile}
+use Rattle.rules.specs.declared.SandRecord.{SandRecord}
 use Rattle.rules.proofs.Basics.{split, same-eq, same-of}
 use Rattle.rules.proofs.GroundLaws.{soil-here, soil-below}
 use Rattle.rules.proofs.RefusalLaws.{first-off}
@@ -134,15 +135,15 @@ pub slices-room : (rs : List Row) (p : Pile) (n : ℕ) → length rs ≤ n → p
 slices-room rs p n k d h = rw (slices-length p (pieces (soilAt rs) (p .head) (p .tip))) (room rs (p .head) (p .tip) n k d h)
 
 -- what is held has places: 7 and 8 see to the tip's limit and the log's depth, and where a check refuses nothing is held
-pub held-room : (rs : List Row) (p : Pile) (n : ℕ) → length rs ≤ n → length (heldSlicesOf rs p) ≤ placesFor n
+pub held-room : (rs : List Row) (p : Pile) (extra : SandRecord) (n : ℕ) → length rs ≤ n → length (heldSlicesOf rs p extra) ≤ placesFor n
 unfolding heldSlicesOf heldSlices checksFrom
-held-room rs p n k =
-    pick-length (refuses (groundChecks (soilAt rs) (depthOf rs) p)) [] (shaftSlices (soilAt rs) p) (placesFor n)
+held-room rs p extra n k =
+    pick-length (refuses (groundChecks (soilAt rs) (depthOf rs) p extra)) [] (shaftSlices (soilAt rs) p) (placesFor n)
     (λ h. omega arith)
     (λ h.
-    let c = clear (depthOf rs) p (first-off (early (depthOf rs) p) _ (rw (ground-grouped (soilAt rs) (depthOf rs) p) at h) .0) in
+    let c = clear (depthOf rs) p (first-off (early (depthOf rs) p) _ (rw (ground-grouped (soilAt rs) (depthOf rs) p extra) at h) .0) in
     slices-room rs p n k (omega (arith, c .deep)) (c .near))
 
 -- of a log past its checks, by its own form
-pub log-room : (log pile : List ℕ) → Passed log → length (heldSlicesOf (rowsOf log) (pileOf pile)) ≤ placesFor (limitOf log)
-log-room log pile h = let k = known log h in held-room (rowsOf log) (pileOf pile) (limitOf log) (omega (arith, k .rows, k .few))
+pub log-room : (log pile : List ℕ) (extra : SandRecord) → Passed log → length (heldSlicesOf (rowsOf log) (pileOf pile) extra) ≤ placesFor (limitOf log)
+log-room log pile extra h = let k = known log h in held-room (rowsOf log) (pileOf pile) extra (limitOf log) (omega (arith, k .rows, k .few))

@@ -10,6 +10,7 @@ use Rattle.rules.specs.declared.Slice.{Slice}
 use Rattle.rules.specs.declared.Refusal.{Refusal}
 use Rattle.rules.specs.declared.Soil.{Soil}
 use Rattle.rules.specs.declared.Pile.{Pile}
+use Rattle.rules.specs.declared.SandRecord.{SandRecord}
 use Rattle.rules.specs.Base.{pick, refuses, when}
 use Rattle.rules.specs.Limits.{tableSize, limitOf}
 use Rattle.rules.specs.Packed.{rowsOf, pileOf, tableBytes}
@@ -29,28 +30,28 @@ pick-kept : (t : Bool) (r : Refusal) (a : Answer) → a .kept ≡ 0 → pick t (
 pick-kept true r a h = refl
 pick-kept false r a h = h
 
-ground-kept : (g : ℕ → Soil) (depth : ℕ) (p : Pile) → answer g depth p .kept ≡ 0
+ground-kept : (g : ℕ → Soil) (depth : ℕ) (p : Pile) (extra : SandRecord) → answer g depth p extra .kept ≡ 0
 unfolding answer numbers
-ground-kept g depth p =
-    let r : Refusal = groundChecks g depth p in
+ground-kept g depth p extra =
+    let r : Refusal = groundChecks g depth p extra in
     let soil = g (belowTip p) in
-    pick-kept (refuses r) r (numbers soil p (resistance p soil) (lineOf (shaftSlices g p))) refl
+    pick-kept (refuses r) r (numbers soil p (resistance p extra soil) (lineOf (shaftSlices g p))) refl
 
-no-kept : (log pile : List ℕ) → freshAnswer log pile .kept ≡ 0
+no-kept : (log pile : List ℕ) (extra : SandRecord) → freshAnswer log pile extra .kept ≡ 0
 unfolding freshAnswer answerOf
-no-kept log pile = ground-kept _ _ _
+no-kept log pile extra = ground-kept _ _ _ extra
 
 -- what is held of an accepted edit is the answer worked out afresh
-pub held-is : (log pile table : List ℕ) → withKept 0 (editAnswer log pile table) ≡ freshAnswer log pile
+pub held-is : (log pile : List ℕ) (extra : SandRecord) (table : List ℕ) → withKept 0 (editAnswer log pile extra table) ≡ freshAnswer log pile extra
 unfolding editAnswer
-held-is log pile table = let e : freshAnswer log pile .kept ≡ 0 = no-kept log pile in λ i. record {
-  refusal = freshAnswer log pile .refusal;
+held-is log pile extra table = let e : freshAnswer log pile extra .kept ≡ 0 = no-kept log pile extra in λ i. record {
+  refusal = freshAnswer log pile extra .refusal;
   kept = sym e i;
-  line = freshAnswer log pile .line;
-  tip = freshAnswer log pile .tip;
-  shaft = freshAnswer log pile .shaft;
-  capacity = freshAnswer log pile .capacity;
-  uplift = freshAnswer log pile .uplift;
+  line = freshAnswer log pile extra .line;
+  tip = freshAnswer log pile extra .tip;
+  shaft = freshAnswer log pile extra .shaft;
+  capacity = freshAnswer log pile extra .capacity;
+  uplift = freshAnswer log pile extra .uplift;
 }
 
 -- a refused edit changes no buffer and not what is held
@@ -68,10 +69,10 @@ has-form log pile table h =
 
 -- Two logs that checks 1 to 4 let pass with the same pile record, that are equally deep and agree at every millimetre, get equal answers and
 -- equal tables, whatever the tables held.
-pub however-typed : (a b pile t u : List ℕ) → refuses (lentChecks a pile t) ≡ false → refuses (lentChecks b pile u) ≡ false → Agree (rowsOf a) (rowsOf b)
-    → (calculated a pile t ≡ calculated b pile u) × (tableAfter a pile t ≡ tableAfter b pile u)
+pub however-typed : (a b pile : List ℕ) (extra : SandRecord) (t u : List ℕ) → refuses (lentChecks a pile t) ≡ false → refuses (lentChecks b pile u) ≡ false → Agree (rowsOf a) (rowsOf b)
+    → (calculated a pile extra t ≡ calculated b pile extra u) × (tableAfter a pile extra t ≡ tableAfter b pile extra u)
 unfolding calculated tableAfter freshAnswer freshTable
-however-typed a b pile t u h k g =
-    let e = only-millimetres (rowsOf a) (rowsOf b) (pileOf pile) g in
+however-typed a b pile extra t u h k g =
+    let e = only-millimetres (rowsOf a) (rowsOf b) (pileOf pile) extra g in
     let f : limitOf a ≡ limitOf b = one-form a (has-form a pile t h) ∙ sym (one-form b (has-form b pile u k)) in
     (rw (h, k) (e .0), rw (h, k) (ap₂ (λ (n : ℕ) (cs : List Slice). tableBytes (tableSize n) cs) f (e .1)))

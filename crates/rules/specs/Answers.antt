@@ -4,6 +4,7 @@ use Prim.Native.Nat.{ℕ, _+_}
 use Rattle.rules.specs.declared.Refusal.{Refusal}
 use Rattle.rules.specs.declared.Soil.{Soil}
 use Rattle.rules.specs.declared.Pile.{Pile}
+use Rattle.rules.specs.declared.SandRecord.{SandRecord}
 use Rattle.rules.specs.declared.Slice.{Slice}
 use Rattle.rules.specs.declared.Answer.{Answer}
 use Rattle.rules.specs.Base.{pick, nothing, refuses}
@@ -21,14 +22,14 @@ numbers soil p r line =
     let s = shaftForce p line in
     record { refusal = nothing; kept = 0; line = line; tip = t; shaft = s; capacity = capacityOf soil (t + s); uplift = upliftOf p s }
 
--- of a ground g that is `depth` deep
-unfoldable pub answer : (ℕ → Soil) → ℕ → Pile → Answer
-answer g depth p =
-    let r = groundChecks g depth p in
+-- of a ground g that is `depth` deep, with the extra record that comes with the pile
+unfoldable pub answer : (ℕ → Soil) → ℕ → Pile → SandRecord → Answer
+answer g depth p extra =
+    let r = groundChecks g depth p extra in
     let soil = g (belowTip p) in
-    let worked = numbers soil p (resistance p soil) (lineOf (shaftSlices g p)) in
+    let worked = numbers soil p (resistance p extra soil) (lineOf (shaftSlices g p)) in
     pick (refuses r) (refused r) worked
 
--- the slices that the table holds. "Under 5 to 12 .. the table becomes all zero": none
-unfoldable pub heldSlices : (ℕ → Soil) → ℕ → Pile → List Slice
-heldSlices g depth p = pick (refuses (groundChecks g depth p)) [] (shaftSlices g p)
+-- the slices that the table holds. "Under 5 to 12 .. the table becomes all zero": none. 02 (iv): 17 is "with the effect of 10"
+unfoldable pub heldSlices : (ℕ → Soil) → ℕ → Pile → SandRecord → List Slice
+heldSlices g depth p extra = pick (refuses (groundChecks g depth p extra)) [] (shaftSlices g p)

@@ -2,9 +2,13 @@
 use Prim.Native.Nat.{ℕ, _*_, _/_}
 use Rattle.rules.specs.Limits.{tipLimit}
 
--- the largest cell of either table, in kPa: 4,500 of table 7.8
+-- the largest cell of any table, as it is stored: 6,000 kPa of table 7.2
 abbrev pub cellBound : ℕ
-cellBound = 4500
+cellBound = 6000
+
+-- a number that is weighed: a cell, or one times the parts between two marks, of which there are at most 10,000
+abbrev pub weighedBound : ℕ
+weighedBound = cellBound * 10000
 
 -- R in Pa
 abbrev pub resistanceBound : ℕ
@@ -30,6 +34,6 @@ sumBound = weightBound * tipLimit
 abbrev pub lineBound : ℕ
 lineBound = sumBound / 2000000
 
--- tip and shaft each, in N: line × the longest perimeter, 2 × (4,000 + 4,000) mm, is 51,200,000; R × the largest area, 4,000 × 4,000 mm, is 72,000,000
+-- tip and shaft each, in N: line × the longest perimeter, 2 × (4,000 + 4,000) mm, is 51,200,000; R × the largest area, 4,000 × 4,000 mm, would be 96,000,000
 abbrev pub forceBound : ℕ
 forceBound = 100000000

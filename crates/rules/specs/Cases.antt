@@ -9,6 +9,8 @@ use Rattle.rules.specs.declared.Row.{Row}
 use Rattle.rules.specs.declared.Pile.{Pile}
 use Rattle.rules.specs.declared.Slice.{Slice}
 use Rattle.rules.specs.declared.Answer.{Answer}
+use Rattle.rules.specs.declared.SandRecord.{SandRecord}
+use Rattle.rules.specs.declared.SandRecord.the-variants.{Absent, Given}
 use Rattle.rules.specs.Base.{pick}
 use Rattle.rules.specs.Grades.{withGrade}
 use Rattle.rules.specs.Records.{plainSize, gradedSize, sliceSize, sliceFields}
@@ -25,8 +27,9 @@ pub data Shown : Type 0 where
   five : ℕ → ℕ → ℕ → ℕ → ℕ → Shown
   -- refused by this number, row 0 and field 0: "zeros for line, tip, shaft, capacity, uplift and kept"
   refusedBy : ℕ → Shown
-  -- R in kPa, accepted
+  -- R in kPa, and R in Pa, accepted
   kPa : ℕ → Shown
+  pa : ℕ → Shown
   -- the slices: top, thickness, friction, factor
   bars : List (List ℕ) → Shown
   -- the packed log, the pile record, the first slice in the table
@@ -39,6 +42,7 @@ pub data Shown : Type 0 where
 pub record Case : Type 0 where
   pub rows : List Row
   pub pile : Pile
+  pub extra : SandRecord
   pub shown : Shown
 
 abbrev pub joined : List (List ℕ) → List ℕ
@@ -50,6 +54,7 @@ abbrev pub printed : Shown → List ℕ
 printed (five l t s c u) = 0 ∷ 0 ∷ 0 ∷ 0 ∷ l ∷ t ∷ s ∷ c ∷ u ∷ []
 printed (refusedBy n) = n ∷ 0 ∷ 0 ∷ 0 ∷ 0 ∷ 0 ∷ 0 ∷ 0 ∷ 0 ∷ []
 printed (kPa r) = 0 ∷ r * 1000 ∷ []
+printed (pa r) = 0 ∷ r ∷ []
 printed (bars l) = 0 ∷ joined l
 printed (logHex l) = l
 printed (pileHex l) = l
@@ -67,31 +72,33 @@ pileRecord p = pileBytes (pick (eqb (p .grade) 0) plainSize gradedSize) p
 abbrev pub blankTable : List ℕ
 blankTable = replicate (tableSize rowLimit) 0
 
-abbrev pub answerIn : List Row → Pile → Answer
-answerIn rs p = calculated (logIn rs) (pileRecord p) blankTable
+abbrev pub answerIn : List Row → Pile → SandRecord → Answer
+answerIn rs p extra = calculated (logIn rs) (pileRecord p) extra blankTable
 
-abbrev pub slicesIn : List Row → Pile → List Slice
-slicesIn rs p = heldSlicesOf (rowsOf (logIn rs)) (pileOf (pileRecord p))
+abbrev pub slicesIn : List Row → Pile → SandRecord → List Slice
+slicesIn rs p extra = heldSlicesOf (rowsOf (logIn rs)) (pileOf (pileRecord p)) extra
 
-abbrev pub resistanceIn : List Row → Pile → ℕ
-resistanceIn rs p = resistance (pileOf (pileRecord p)) (soilAt (rowsOf (logIn rs)) (belowTip p))
+abbrev pub resistanceIn : List Row → Pile → SandRecord → ℕ
+resistanceIn rs p extra = resistance (pileOf (pileRecord p)) extra (soilAt (rowsOf (logIn rs)) (belowTip p))
 
 abbrev pub replyOf : Answer → List ℕ
 replyOf a = a .refusal .number ∷ a .refusal .row ∷ a .refusal .field ∷ a .kept ∷ a .line ∷ a .tip ∷ a .shaft ∷ a .capacity ∷ a .uplift ∷ []
 
 -- the same, worked out by the definitions, from the packed bytes
-abbrev pub worked : Shown → List Row → Pile → List ℕ
-worked (five l t s c u) rs p = replyOf (answerIn rs p)
-worked (refusedBy n) rs p = replyOf (answerIn rs p)
-worked (kPa r) rs p = answerIn rs p .refusal .number ∷ resistanceIn rs p ∷ []
-worked (bars l) rs p = answerIn rs p .refusal .number ∷ joined (map sliceFields (slicesIn rs p))
-worked (logHex l) rs p = logIn rs
-worked (pileHex l) rs p = pileRecord p
-worked (firstSlice l) rs p = take sliceSize (tableAfter (logIn rs) (pileRecord p) blankTable)
-worked (sheet l) rs p = sheetText (logIn rs ++ pileRecord p)
+abbrev pub worked : Shown → List Row → Pile → SandRecord → List ℕ
+worked (five l t s c u) rs p extra = replyOf (answerIn rs p extra)
+worked (refusedBy n) rs p extra = replyOf (answerIn rs p extra)
+worked (kPa r) rs p extra = answerIn rs p extra .refusal .number ∷ resistanceIn rs p extra ∷ []
+worked (pa r) rs p extra = answerIn rs p extra .refusal .number ∷ resistanceIn rs p extra ∷ []
+worked (bars l) rs p extra = answerIn rs p extra .refusal .number ∷ joined (map sliceFields (slicesIn rs p extra))
+worked (logHex l) rs p extra = logIn rs
+worked (pileHex l) rs p extra = pileRecord p
+worked (firstSlice l) rs p extra = take sliceSize (tableAfter (logIn rs) (pileRecord p) extra blankTable)
+-- the sheet program brings no extra record
+worked (sheet l) rs p extra = sheetText (logIn rs ++ pileRecord p)
 
 abbrev pub work : Case → List ℕ
-work c = worked (c .shown) (c .rows) (c .pile)
+work c = worked (c .shown) (c .rows) (c .pile) (c .extra)
 
 abbrev pub print : Case → List ℕ
 print c = printed (c .shown)
@@ -99,8 +106,12 @@ print c = printed (c .shown)
 abbrev pub row : ℕ → ℕ → ℕ → ℕ → Row
 row t k i w = record { thickness = t; kind = k; index = i; saturation = w; zero = 0 }
 
+-- with no extra record, and with one
 abbrev pub case : List Row → Pile → Shown → Case
-case r p s = record { rows = r; pile = p; shown = s }
+case r p s = record { rows = r; pile = p; extra = Absent; shown = s }
+
+abbrev pub caseWith : SandRecord → List Row → Pile → Shown → Case
+caseWith extra r p s = record { rows = r; pile = p; extra = extra; shown = s }
 
 -- clay of saturation 95 and this index, in hundredths plus 100
 abbrev pub clay : ℕ → ℕ → List Row
@@ -127,6 +138,18 @@ dug c = 2 ^ 16 - c
 -- A's circle from a head down to a tip, where the site is cut
 abbrev pub inCut : ℕ → ℕ → ℕ → Pile
 inCut c h t = record { section = 1; a = 600; b = 0; method = 1; head = h; tip = t; zero = 0; grade = dug c }
+
+-- a circle of diameter d, head 1,000
+abbrev pub circleOf : ℕ → ℕ → Pile
+circleOf d t = record { section = 1; a = d; b = 0; method = 1; head = 1000; tip = t; zero = 0; grade = 0 }
+
+-- the extra record: angle, unit weight below and above
+abbrev pub sandRecord : ℕ → ℕ → ℕ → SandRecord
+sandRecord angle below above = Given (record { angle = angle; below = below; above = above })
+
+-- sand of this kind, its saturation that of the clay
+abbrev pub sandOf : ℕ → ℕ → List Row
+sandOf t kind = row t kind 100 95 ∷ []
 
 abbrev pub rectangle : ℕ → ℕ → Pile
 rectangle a b = record { section = 2; a = a; b = b; method = 1; head = 1000; tip = 10000; zero = 0; grade = 0 }
@@ -209,4 +232,47 @@ cases =
     case (clay 60000 130) (inCut 5000 5000 40001) (refusedBy 7) ∷
     -- the deepest cut, of 32,768; the five numbers from the second program
     case (clay 60000 130) (inCut 32768 32768 40000) (five 182519 273525 344039 617564 275231) ∷
+    -- 02 (iv), tips in sand. Four worked values of R, each with its whole reply: medium, fine, silty (h/d just 25) and fine sand (the smallest angle)
+    caseWith (sandRecord 3000 10000 18000) (sandOf 30000 1) (circleOf 600 10000) (pa 780207) ∷
+    caseWith (sandRecord 3000 10000 18000) (sandOf 30000 1) (circleOf 600 10000) (five 345975 220598 652146 872744 521716) ∷
+    caseWith (sandRecord 3200 10000 19000) (sandOf 30000 2) (circleOf 1000 15000) (pa 1689425) ∷
+    caseWith (sandRecord 3200 10000 19000) (sandOf 30000 2) (circleOf 1000 15000) (five 417200 1326870 1310671 2637541 1048536) ∷
+    caseWith (sandRecord 3333 10000 18000) (sandOf 30000 3) (circleOf 400 10000) (pa 1217433) ∷
+    caseWith (sandRecord 3333 10000 18000) (sandOf 30000 3) (circleOf 400 10000) (five 180425 152987 226728 379715 181382) ∷
+    caseWith (sandRecord 2556 9000 17000) (sandOf 30000 2) (circleOf 1200 8000) (pa 464045) ∷
+    caseWith (sandRecord 2556 9000 17000) (sandOf 30000 2) (circleOf 1200 8000) (five 184450 524822 695359 1220181 556287) ∷
+    -- "Each coefficient is interpolated, then rounded down"; "γ1 h to whole Pa; each term in the bracket to whole Pa"; "less the cut", also up to 3,000
+    caseWith (sandRecord 2926 9950 17901) (sandOf 30000 1) (withGrade (dug 1000) (circleOf 1200 12123)) (pa 918968) ∷
+    caseWith (sandRecord 2926 9950 17901) (sandOf 30000 1) (withGrade (dug 1000) (circleOf 1200 12123)) (five 444814 1039327 1676907 2716234 1341525) ∷
+    -- a fill adds nothing to h
+    caseWith (sandRecord 3000 10000 18000) (sandOf 30000 1) (withGrade (filled 5000) (circleOf 600 10000)) (five 380170 220598 716602 937200 573281) ∷
+    -- "h/d at 25 or more uses the last line"
+    caseWith (sandRecord 3000 10000 18000) (sandOf 30000 3) (circleOf 300 10000) (five 180425 49813 170046 219859 136036) ∷
+    -- "R is capped .. on the tip depth as read": 4,640,000 Pa, on the natural depth 4,800,000
+    caseWith (sandRecord 4333 10000 18000) (sandOf 30000 1) (inCut 5000 5000 20000) (kPa 4640) ∷
+    caseWith (sandRecord 4333 10000 18000) (sandOf 30000 1) (inCut 5000 5000 20000) (five 682570 1311927 1286613 2598540 1029290) ∷
+    -- "below 35 m the 35 m row"
+    caseWith (sandRecord 4333 10000 18000) (sandOf 60000 3) (circleOf 600 36000) (five 957320 636171 1804504 2440675 1443603) ∷
+    -- "rounded down to whole Pa", and "× 1" at a saturation of 80
+    caseWith (sandRecord 4000 10000 18000) (row 30000 2 100 80 ∷ []) (circleOf 600 8000) (pa 2466666) ∷
+    caseWith (sandRecord 4000 10000 18000) (row 30000 2 100 80 ∷ []) (circleOf 600 8000) (five 184450 697432 347679 1045111 278143) ∷
+    -- 9: "without the record or in a rectangle"
+    case (sandOf 30000 1) (circleOf 600 10000) (refusedBy 9) ∷
+    caseWith (sandRecord 3000 10000 18000) (sandOf 30000 1) (rectangle 800 400) (refusedBy 9) ∷
+    -- 17: "an angle under 23 or over 39 degrees after the 0.9, a unit weight of 0 or over 30,000, or h/d under 4"
+    caseWith (sandRecord 2555 10000 18000) (sandOf 30000 1) (circleOf 600 10000) (refusedBy 17) ∷
+    caseWith (sandRecord 4334 10000 18000) (sandOf 30000 1) (circleOf 600 10000) (refusedBy 17) ∷
+    caseWith (sandRecord 3000 0 18000) (sandOf 30000 1) (circleOf 600 10000) (refusedBy 17) ∷
+    caseWith (sandRecord 3000 30001 18000) (sandOf 30000 1) (circleOf 600 10000) (refusedBy 17) ∷
+    caseWith (sandRecord 3000 10000 0) (sandOf 30000 1) (circleOf 600 10000) (refusedBy 17) ∷
+    caseWith (sandRecord 3000 10000 30001) (sandOf 30000 1) (circleOf 600 10000) (refusedBy 17) ∷
+    caseWith (sandRecord 3000 1 1) (sandOf 30000 1) (circleOf 600 10000) (five 345975 12 652146 652158 521716) ∷
+    caseWith (sandRecord 3000 30000 30000) (sandOf 30000 1) (circleOf 600 10000) (five 345975 376174 652146 1028320 521716) ∷
+    caseWith (sandRecord 3000 10000 18000) (sandOf 30000 1) (circleOf 2000 7999) (refusedBy 17) ∷
+    caseWith (sandRecord 3000 10000 18000) (sandOf 30000 1) (circleOf 2000 8000) (five 256900 2599631 1614148 4213779 1291318) ∷
+    -- "after 10": a record of zeros, given, over a seat of 1,999 and over a long one
+    caseWith (sandRecord 0 0 0) (clay 8001 130 ++ sandOf 22000 1) (circleOf 600 10000) (refusedBy 10) ∷
+    caseWith (sandRecord 0 0 0) (sandOf 30000 1) (circleOf 600 10000) (refusedBy 17) ∷
+    -- "ignored over clay"
+    caseWith (sandRecord 0 0 0) (clay 20000 130) pileA (five 212100 268605 399798 668403 319838) ∷
     []

@@ -1,6 +1,6 @@
--- Checks 1 to 14 of documents 01 and 02, by their numbers, each with its sentence; then which of them a call makes, in order.
+-- Checks 1 to 14 and 17 of documents 01 and 02, by their numbers, each with its sentence; then which of them a call makes, in order.
 use mathlib.Core.Path.{_≡_}
-use mathlib.Core.Bool.{Bool, false}
+use mathlib.Core.Bool.{Bool, true, false}
 use mathlib.Core.Logic.{_⊎_}
 use mathlib.Core.List.{List, [], _∷_, _++_}
 use Prim.Native.Nat.{ℕ, _+_, _*_, _-_, max}
@@ -10,6 +10,8 @@ use Rattle.rules.specs.declared.Refusal.{Refusal}
 use Rattle.rules.specs.declared.Row.{Row}
 use Rattle.rules.specs.declared.Soil.{Soil}
 use Rattle.rules.specs.declared.Pile.{Pile}
+use Rattle.rules.specs.declared.SandRecord.{SandRecord}
+use Rattle.rules.specs.declared.SandRecord.the-variants.{Absent, Given}
 use Rattle.rules.specs.Base.{pick, both, either, neg, within, nothing, refuses, when, inOrder, allZero}
 use Rattle.rules.specs.Records.{rowSize, plainSize, gradedSize}
 use Rattle.rules.specs.Limits.{limitOf, tableSize, thicknessLimit, depthLimit, tipLimit}
@@ -17,7 +19,8 @@ use Rattle.rules.specs.Grades.{cutDepth}
 use Rattle.rules.specs.Packed.{countOf, rowAt, rowsOf, pileOf}
 use Rattle.rules.specs.Ground.{soilAt, depthOf}
 use Rattle.rules.specs.Pieces.{runTop}
-use Rattle.rules.specs.Numbers.{sand, belowTip, tipOf, tipRead, isDash}
+use Rattle.rules.specs.SandTips.{reduced}
+use Rattle.rules.specs.Numbers.{sand, belowTip, tipOf, tipFromCut, tipRead, isDash}
 use Rattle.rules.specs.Edits.{Edit, brings, grows, stands, editedRows}
 
 -- 1: "a lent piece has the wrong length"
@@ -116,7 +119,13 @@ depthsWrong p =
 abbrev pub logShort : ℕ → Pile → Bool
 logShort depth p = ltb depth (p .tip + 5000)
 
--- 9: "sand just below the tip": `sand` of Numbers
+-- 9: 02 (iv): "now means a sand tip without the record or in a rectangle"
+abbrev pub absent : SandRecord → Bool
+absent Absent = true
+absent (Given b) = false
+
+abbrev pub sandUnread : Soil → Pile → SandRecord → Bool
+sandUnread s p extra = both (sand s) (either (absent extra) (eqb (p .section) 2))
 
 -- 10: "seat too short: tip less the deeper of head and tip-stratum top is under 2,000, or under the diameter or longer side"
 abbrev pub seatOf : ℕ → Pile → ℕ
@@ -125,13 +134,26 @@ seatOf top p = p .tip - max (p .head) top
 abbrev pub seatShort : ℕ → Pile → Bool
 seatShort top p = either (ltb (seatOf top p) 2000) (ltb (seatOf top p) (max (p .a) (p .b)))
 
--- 11: "tip liquidity index over 0.60", stored "in hundredths plus 100"
+-- 17: 02 (iv): "after 10 and with the effect of 10, an angle under 23 or over 39 degrees after the 0.9, a unit weight of 0 or over 30,000, or
+-- h/d under 4": of a record that is given, for a circle of diameter a
+abbrev pub recordWrong : Pile → SandRecord → Bool
+recordWrong p Absent = false
+recordWrong p (Given b) =
+    either (neg (within 23000 39000 (reduced (b .angle))))
+    (either (neg (within 1 30000 (b .below)))
+    (either (neg (within 1 30000 (b .above)))
+    (ltb (tipFromCut p) (4 * p .a))))
+
+abbrev pub sandWrong : Soil → Pile → SandRecord → Bool
+sandWrong s p extra = both (sand s) (recordWrong p extra)
+
+-- 11: "tip liquidity index over 0.60", stored "in hundredths plus 100"; 02 (iv), of a sand tip: "11 and 12 don't apply to it"
 abbrev pub tooSoft : Soil → Bool
-tooSoft s = ltb 160 (s .index)
+tooSoft s = both (neg (sand s)) (ltb 160 (s .index))
 
 -- 12: "a dash in table 7.8 would be read with a weight above zero"
 abbrev pub dashed : Soil → Pile → Bool
-dashed s p = isDash (tipRead (tipOf p) (s .index))
+dashed s p = both (neg (sand s)) (isDash (tipRead (tipOf p) (s .index)))
 
 -- 13: "edit is none of the four kinds, names no such row or split point, or removes the only row"
 abbrev pub namesNothing : Edit → List ℕ → Bool
@@ -147,16 +169,17 @@ full kind limit count = both (grows kind) (leb limit count)
 abbrev pub oneToFour : Bool → List ℕ → List Refusal
 oneToFour wrong log = when wrong 1 ∷ when (unusedWrong log) 2 ∷ firstWrong 1 (rowsOf log) ∷ when (tooDeep (rowsOf log)) 4 ∷ []
 
--- of a pile in a ground g that is `depth` deep
-abbrev pub fiveOn : (ℕ → Soil) → ℕ → Pile → List Refusal
-fiveOn g depth p =
+-- of a pile in a ground g that is `depth` deep, with the extra record that comes with it
+abbrev pub fiveOn : (ℕ → Soil) → ℕ → Pile → SandRecord → List Refusal
+fiveOn g depth p extra =
     let soil = g (belowTip p) in
     sectionCheck p ∷
     when (methodWrong p) 6 ∷
     when (depthsWrong p) 7 ∷
     when (logShort depth p) 8 ∷
-    when (sand soil) 9 ∷
+    when (sandUnread soil p extra) 9 ∷
     when (seatShort (runTop g soil (belowTip p)) p) 10 ∷
+    when (sandWrong soil p extra) 17 ∷
     when (tooSoft soil) 11 ∷
     when (dashed soil p) 12 ∷
     []
@@ -174,14 +197,14 @@ thirteenOn e log =
 unfoldable pub lentChecks : List ℕ → List ℕ → List ℕ → Refusal
 lentChecks log pile table = inOrder (oneToFour (lengthsWrong log pile table) log)
 
--- 5 to 12
-unfoldable pub groundChecks : (ℕ → Soil) → ℕ → Pile → Refusal
-groundChecks g depth p = inOrder (fiveOn g depth p)
+-- 5 to 12, with 17 after 10
+unfoldable pub groundChecks : (ℕ → Soil) → ℕ → Pile → SandRecord → Refusal
+groundChecks g depth p extra = inOrder (fiveOn g depth p extra)
 
--- "A calculation checks 1 to 12 .. in order."
-unfoldable pub calculationChecks : List ℕ → List ℕ → List ℕ → Refusal
-calculationChecks log pile table =
-    inOrder (oneToFour (lengthsWrong log pile table) log ++ fiveOn (soilAt (rowsOf log)) (depthOf (rowsOf log)) (pileOf pile))
+-- "A calculation checks 1 to 12 .. in order.", 17 "after 10"
+unfoldable pub calculationChecks : List ℕ → List ℕ → SandRecord → List ℕ → Refusal
+calculationChecks log pile extra table =
+    inOrder (oneToFour (lengthsWrong log pile table) log ++ fiveOn (soilAt (rowsOf log)) (depthOf (rowsOf log)) (pileOf pile) extra)
 
 -- "An edit checks 1 to 4 of what is lent, 13, 14, then 3 for its new row (row number k), then 4 for the new log; these refuse the edit."
 unfoldable pub editChecks : Edit → List ℕ → List ℕ → List ℕ → Refusal

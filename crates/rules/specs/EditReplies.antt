@@ -6,6 +6,7 @@ use Prim.Native.Nat.{ℕ, zero, suc, _/_}
 use lib.Dec.{ltb, eqb}
 use lib.ListN.{length, take, drop}
 use Rattle.rules.specs.declared.Answer.{Answer}
+use Rattle.rules.specs.declared.SandRecord.{SandRecord}
 use Rattle.rules.specs.Base.{pick, both, refuses}
 use Rattle.rules.specs.Records.{sliceSize}
 use Rattle.rules.specs.Packed.{rowsOf, pileOf, sliceAt}
@@ -40,29 +41,29 @@ keptIn (suc n) new lent =
 unfoldable pub keptOf : List ℕ → List ℕ → ℕ
 keptOf new lent = keptIn (length new / sliceSize) new lent
 
-abbrev pub usedSlices : List ℕ → List ℕ → ℕ
-usedSlices log pile = length (heldSlicesOf (rowsOf log) (pileOf pile))
+abbrev pub usedSlices : List ℕ → List ℕ → SandRecord → ℕ
+usedSlices log pile extra = length (heldSlicesOf (rowsOf log) (pileOf pile) extra)
 
 abbrev pub withKept : ℕ → Answer → Answer
 withKept n a = record { refusal = a .refusal; kept = n; line = a .line; tip = a .tip; shaft = a .shaft; capacity = a .capacity; uplift = a .uplift }
 
 -- what an accepted edit replies, for the log as it now stands
-unfoldable pub editAnswer : List ℕ → List ℕ → List ℕ → Answer
-editAnswer now pile table = withKept (kept (usedSlices now pile) (freshTable now pile) table) (freshAnswer now pile)
+unfoldable pub editAnswer : List ℕ → List ℕ → SandRecord → List ℕ → Answer
+editAnswer now pile extra table = withKept (kept (usedSlices now pile extra) (freshTable now pile extra) table) (freshAnswer now pile extra)
 
 -- the reply, the log and the table after the edit. "A refused edit .. changes no buffer."
-unfoldable pub editReply : Edit → List ℕ → List ℕ → List ℕ → Answer
-editReply e log pile table =
+unfoldable pub editReply : Edit → List ℕ → List ℕ → SandRecord → List ℕ → Answer
+editReply e log pile extra table =
     let r = editChecks e log pile table in
-    pick (refuses r) (refused r) (editAnswer (editedLog e log) pile table)
+    pick (refuses r) (refused r) (editAnswer (editedLog e log) pile extra table)
 
 unfoldable pub editLog : Edit → List ℕ → List ℕ → List ℕ → List ℕ
 editLog e log pile table = pick (refuses (editChecks e log pile table)) log (editedLog e log)
 
-unfoldable pub editTable : Edit → List ℕ → List ℕ → List ℕ → List ℕ
-editTable e log pile table = pick (refuses (editChecks e log pile table)) table (freshTable (editedLog e log) pile)
+unfoldable pub editTable : Edit → List ℕ → List ℕ → SandRecord → List ℕ → List ℕ
+editTable e log pile extra table = pick (refuses (editChecks e log pile table)) table (freshTable (editedLog e log) pile extra)
 
 -- the reply to an edit of `log` and its table are those of a calculation of log l, with kept counted against the table that was lent
-pub record AsCalculated (e : Edit) (log l pile table : List ℕ) : Type 0 where
-  pub answer : editReply e log pile table ≡ withKept (keptOf (tableAfter l pile table) table) (calculated l pile table)
-  pub leaves : editTable e log pile table ≡ tableAfter l pile table
+pub record AsCalculated (e : Edit) (log l pile : List ℕ) (extra : SandRecord) (table : List ℕ) : Type 0 where
+  pub answer : editReply e log pile extra table ≡ withKept (keptOf (tableAfter l pile extra table) table) (calculated l pile extra table)
+  pub leaves : editTable e log pile extra table ≡ tableAfter l pile extra table

@@ -1,4 +1,4 @@
--- Document 01 as definitions; README.md has the map.
+-- Documents 01 and 02 as definitions; README.md has the map.
 pub mod Base
 pub mod Widths
 pub mod Records
@@ -9,6 +9,7 @@ pub mod Packed
 pub mod Ground
 pub mod Pieces
 pub mod Tables
+pub mod SandTips
 pub mod Numbers
 pub mod Edits
 pub mod Checks

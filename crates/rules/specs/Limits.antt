@@ -1,5 +1,5 @@
 -- Counts and lengths of documents 01 and 02, each named once; the sizes of records are in Records. (Other ranges of fields, and the numbers of
--- checks 7 to 12, stand with their sentences.)
+-- checks 7 to 12 and 17, stand with their sentences.)
 use mathlib.Core.List.{List, [], _∷_}
 use Prim.Native.Nat.{ℕ, _+_, _*_}
 use lib.Dec.{eqb}

@@ -1,4 +1,4 @@
--- The slices of a shaft with their friction and factor, what table 7.8 is read to at the tip, and the six roundings.
+-- The slices of a shaft with their friction and factor, R under the tip, and the six roundings.
 use mathlib.Core.Bool.{Bool, true, false}
 use mathlib.Core.List.{List, [], _∷_}
 use Prim.Native.Nat.{ℕ, _+_, _*_, _-_, _/_, max}
@@ -6,13 +6,16 @@ use lib.Dec.{ltb, leb, eqb}
 use Rattle.rules.specs.declared.Soil.{Soil}
 use Rattle.rules.specs.declared.Pile.{Pile}
 use Rattle.rules.specs.declared.Slice.{Slice}
+use Rattle.rules.specs.declared.SandRecord.{SandRecord}
+use Rattle.rules.specs.declared.SandRecord.the-variants.{Absent, Given}
 use Rattle.rules.specs.declared.Spot.{Spot}
 use Rattle.rules.specs.declared.TipRead.{TipRead}
 use Rattle.rules.specs.declared.TipRead.the-variants.{Dashed, Pascals}
-use Rattle.rules.specs.Base.{pick}
-use Rattle.rules.specs.Grades.{asRead}
+use Rattle.rules.specs.Base.{pick, both, neg}
+use Rattle.rules.specs.Grades.{cutDepth, asRead}
 use Rattle.rules.specs.Pieces.{Piece, pieces}
 use Rattle.rules.specs.Tables.{spotIn, frictionDepths, frictionRows, tipDepths, tipRows, frictionAt, tipAt, dashAt}
+use Rattle.rules.specs.SandTips.{sandResistance}
 
 -- kinds 1 to 3
 abbrev pub sand : Soil → Bool
@@ -23,14 +26,18 @@ sand s = leb (s .kind) 3
 abbrev pub hundredths : Soil → ℕ
 hundredths s = pick (sand s) ((s .kind - 1) * 10) (max 120 (s .index) - 120)
 
--- "at the slice's mid-depth, which may fall on half a millimetre": in half millimetres, as read. Depths reach the two tables only through
--- midOf and tipOf; every other depth stays "measured from natural ground".
+-- "at the slice's mid-depth, which may fall on half a millimetre": in half millimetres, as read. Depths reach the tables only through midOf
+-- and tipOf, and through tipFromCut; every other depth stays "measured from natural ground".
 abbrev pub midOf : Pile → ℕ → ℕ → ℕ
 midOf p top thickness = asRead (p .grade) 2 (top + top + thickness)
 
 -- "at the tip depth": in millimetres, as read
 abbrev pub tipOf : Pile → ℕ
 tipOf p = asRead (p .grade) 1 (p .tip)
+
+-- 02 (iv): "Here h is the tip depth, less the cut if there is one."
+abbrev pub tipFromCut : Pile → ℕ
+tipFromCut p = p .tip - cutDepth (p .grade)
 
 abbrev pub frictionSpot : Soil → ℕ → Spot
 frictionSpot s mid = spotIn frictionDepths frictionRows 2000 mid (hundredths s)
@@ -94,8 +101,14 @@ abbrev pub pascals : TipRead → ℕ
 pascals Dashed = 0
 pascals (Pascals r) = r
 
-unfoldable pub resistance : Pile → Soil → ℕ
-resistance p s = pascals (tipRead (tipOf p) (s .index))
+-- 02 (iv): "A sand tip brings an extra record of three whole numbers": R by formula (7.12), capped by table 7.2; 0 without the record
+abbrev pub sandPascals : Pile → SandRecord → Soil → ℕ
+sandPascals p Absent s = 0
+sandPascals p (Given b) s = sandResistance b (tipFromCut p) (p .a) (s .kind) (tipOf p)
+
+-- R; the extra record is "ignored over clay"
+unfoldable pub resistance : Pile → SandRecord → Soil → ℕ
+resistance p extra s = pick (sand s) (sandPascals p extra s) (pascals (tipRead (tipOf p) (s .index)))
 
 -- "2. Line: the sum of friction × thickness × factor, to whole N per metre of perimeter."
 abbrev pub lineOf : List Slice → ℕ
@@ -109,9 +122,9 @@ tipForce p r = pick (eqb (p .section) 1) (r * p .a * p .a * 314159 / 40000000000
 unfoldable pub shaftForce : Pile → ℕ → ℕ
 shaftForce p line = pick (eqb (p .section) 1) (line * p .a * 314159 / 100000000) (line * (p .a + p .b) * 2 / 1000)
 
--- "5. Capacity: (tip + shaft) × 0.8 if the tip stratum's saturation is under 90, else × 1; to whole N."
+-- "5. Capacity: (tip + shaft) × 0.8 if the tip stratum's saturation is under 90, else × 1; to whole N."; 02 (iv): "A sand tip's capacity takes × 1"
 unfoldable pub capacityOf : Soil → ℕ → ℕ
-capacityOf s n = pick (ltb (s .saturation) 90) (n * 8 / 10) n
+capacityOf s n = pick (both (neg (sand s)) (ltb (s .saturation) 90)) (n * 8 / 10) n
 
 -- "6. Uplift: shaft × 0.6 if tip less head is under 4,000, else × 0.8; to whole N."
 unfoldable pub upliftOf : Pile → ℕ → ℕ

@@ -4,20 +4,24 @@ use mathlib.Core.Path.{_≡_}
 use mathlib.Core.Bool.{false}
 use mathlib.Core.Logic.{_⊎_}
 use mathlib.Core.List.{List, [], _∷_}
-use Prim.Native.Nat.{ℕ, _+_, _^_, _<_, _≤_, max}
+use Prim.Native.Nat.{ℕ, _+_, _*_, _^_, _<_, _≤_, max}
 use lib.ListN.{length, getD}
 use Rattle.rules.specs.declared.Row.{Row}
 use Rattle.rules.specs.declared.Log.{Log}
 use Rattle.rules.specs.declared.Soil.{Soil}
 use Rattle.rules.specs.declared.Pile.{Pile}
 use Rattle.rules.specs.declared.Slice.{Slice}
+use Rattle.rules.specs.declared.SandNumbers.{SandNumbers}
+use Rattle.rules.specs.declared.SandRecord.{SandRecord}
+use Rattle.rules.specs.declared.SandRecord.the-variants.{Given}
 use Rattle.rules.specs.Widths.{Fits}
 use Rattle.rules.specs.Records.{plainSize, gradedSize, sliceWidths, sliceFields}
 use Rattle.rules.specs.Limits.{rowLimit, thicknessLimit, tipLimit}
 use Rattle.rules.specs.Grades.{cutDepth}
 use Rattle.rules.specs.Packed.{noRow}
 use Rattle.rules.specs.Pieces.{runTop}
-use Rattle.rules.specs.Numbers.{belowTip, tipOf, tipRead, isDash}
+use Rattle.rules.specs.SandTips.{reduced}
+use Rattle.rules.specs.Numbers.{belowTip, tipOf, tipFromCut, tipRead, isDash}
 use Rattle.rules.specs.Checks.{seatOf}
 
 -- from low to high
@@ -70,8 +74,31 @@ abbrev pub SlicesFit : List Slice → Type 0
 SlicesFit [] = Unit {0}
 SlicesFit (c ∷ cs) = (0 < c .thickness) × Fits sliceWidths (sliceFields c) × SlicesFit cs
 
--- a pile that stands in a ground g which is `depth` deep: what 5 to 12 ask, as facts
-pub record Sound (g : ℕ → Soil) (depth : ℕ) (p : Pile) : Type 0 where
+-- a tip in clay: what 11 and 12 ask of kinds 4 to 6
+pub record SoundClay (s : Soil) (p : Pile) : Type 0 where
+  pub soil : 4 ≤ s .kind
+  -- 11: "tip liquidity index over 0.60", stored as hundredths plus 100
+  pub firm : s .index ≤ 160
+  -- 12: "a dash in table 7.8 would be read with a weight above zero"
+  pub read : isDash (tipRead (tipOf p) (s .index)) ≡ false
+
+-- a tip in sand, 02 (iv): what 9 and 17 ask of kinds 1 to 3
+pub record SoundSand (s : Soil) (p : Pile) (extra : SandRecord) : Type 0 where
+  pub soil : s .kind ≤ 3
+  -- 9: "a sand tip without the record or in a rectangle"
+  pub base : SandNumbers
+  pub given : extra ≡ Given base
+  pub circle : p .section ≡ 1
+  -- 17: "an angle under 23 or over 39 degrees after the 0.9"
+  pub angle : Between 23000 39000 (reduced (base .angle))
+  -- "a unit weight of 0 or over 30,000"
+  pub below : Between 1 30000 (base .below)
+  pub above : Between 1 30000 (base .above)
+  -- "or h/d under 4"
+  pub ratio : 4 * p .a ≤ tipFromCut p
+
+-- a pile that stands in a ground g which is `depth` deep, with its extra record: what 5 to 12 and 17 ask, as facts
+pub record Sound (g : ℕ → Soil) (depth : ℕ) (p : Pile) (extra : SandRecord) : Type 0 where
   pub fields : PileInRange p
   -- 7: "head not above tip, or tip under 3,000 or over 40,000"
   pub order : p .head < p .tip
@@ -81,12 +108,8 @@ pub record Sound (g : ℕ → Soil) (depth : ℕ) (p : Pile) : Type 0 where
   pub tipAsRead : tipOf p ≤ tipLimit
   -- 8: "log ends less than 5,000 below the tip"
   pub log : p .tip + 5000 ≤ depth
-  -- 9: "sand just below the tip": kinds 1 to 3
-  pub soil : 4 ≤ g (belowTip p) .kind
   -- 10: "tip less the deeper of head and tip-stratum top is under 2,000, or under the diameter or longer side"
   pub seat : 2000 ≤ seatOf (runTop g (g (belowTip p)) (belowTip p)) p
   pub side : max (p .a) (p .b) ≤ seatOf (runTop g (g (belowTip p)) (belowTip p)) p
-  -- 11: "tip liquidity index over 0.60", stored as hundredths plus 100
-  pub firm : g (belowTip p) .index ≤ 160
-  -- 12: "a dash in table 7.8 would be read with a weight above zero"
-  pub read : isDash (tipRead (tipOf p) (g (belowTip p) .index)) ≡ false
+  -- 9, 11, 12 and 17, by the soil just below the tip
+  pub tip : SoundClay (g (belowTip p)) p ⊎ SoundSand (g (belowTip p)) p extra

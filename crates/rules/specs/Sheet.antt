@@ -5,6 +5,7 @@ use lib.Dec.{ltb, eqb}
 use lib.ListN.{length, take, drop, replicate}
 use Rattle.rules.specs.declared.Answer.{Answer}
 use Rattle.rules.specs.declared.Slice.{Slice}
+use Rattle.rules.specs.declared.SandRecord.the-variants.{Absent}
 use Rattle.rules.specs.Base.{pick, refuses}
 use Rattle.rules.specs.Records.{plainSize, gradedSize, sliceFields}
 use Rattle.rules.specs.Limits.{forms, formBy, logSize, tableSize}
@@ -73,7 +74,8 @@ inputLog n input = take (logSize n) input
 abbrev pub inputPile : ℕ → List ℕ → List ℕ
 inputPile n input = drop (logSize n) input
 
+-- 02 (iv): "the sheet program brings none": no extra record
 unfoldable pub sheetText : List ℕ → List ℕ
 sheetText input =
     let n = inputLimit input in
-    sheetOf (calculated (inputLog n input) (inputPile n input) (replicate (tableSize n) 0)) (heldSlicesOf (rowsOf (inputLog n input)) (pileOf (inputPile n input)))
+    sheetOf (calculated (inputLog n input) (inputPile n input) Absent (replicate (tableSize n) 0)) (heldSlicesOf (rowsOf (inputLog n input)) (pileOf (inputPile n input)) Absent)

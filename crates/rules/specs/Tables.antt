@@ -1,4 +1,4 @@
--- Tables 7.3 and 7.8 as document 01 prints them, and the rule by which both are read.
+-- Tables 7.3 and 7.8 as document 01 prints them, and the rule by which tables are read.
 use mathlib.Core.Bool.{Bool, false}
 use mathlib.Core.List.{List, [], _∷_}
 use Prim.Native.Nat.{ℕ, zero, suc, _+_, _*_, _-_, _/_, min, max}

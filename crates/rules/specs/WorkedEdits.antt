@@ -1,24 +1,27 @@
--- Worked edits: each of the four kinds accepted, one on a graded site, refusals 13, 14, 3 and 4 once each, and an accepted edit that holds a
--- refusal of the pile. Every reply, log and table is from the second program (second/).
+-- Worked edits: each of the four kinds accepted, one on a graded site, refusals 13, 14, 3 and 4 once each, and accepted edits that hold a
+-- refusal of the pile, and one that brings the record of a sand tip. Every reply, log and table is from the second program (second/).
 use mathlib.Core.List.{List, [], _∷_, map}
 use Prim.Native.Nat.{ℕ}
 use lib.ListN.{replicate}
 use Rattle.rules.specs.declared.Row.{Row}
 use Rattle.rules.specs.declared.Pile.{Pile}
 use Rattle.rules.specs.declared.Slice.{Slice}
+use Rattle.rules.specs.declared.SandRecord.{SandRecord}
+use Rattle.rules.specs.declared.SandRecord.the-variants.{Absent}
 use Rattle.rules.specs.Records.{sliceFrom}
 use Rattle.rules.specs.Grades.{withGrade}
 use Rattle.rules.specs.Limits.{rowLimit, tableSize}
 use Rattle.rules.specs.Packed.{rowBytes, tableBytes}
 use Rattle.rules.specs.Edits.{Edit, asked}
 use Rattle.rules.specs.EditReplies.{editReply, editLog, editTable}
-use Rattle.rules.specs.Cases.{logIn, pileRecord, replyOf, row, clay, fineSand, filled, pileA, barsA}
+use Rattle.rules.specs.Cases.{logIn, pileRecord, replyOf, row, clay, fineSand, filled, pileA, barsA, sandRecord}
 
 pub record WorkedEdit : Type 0 where
   pub edit : Edit
-  -- what is lent: the log's rows, the pile, the table's slices
+  -- what is lent: the log's rows, the pile and its extra record, the table's slices
   pub rows : List Row
   pub pile : Pile
+  pub extra : SandRecord
   pub lent : List Slice
   -- refusal number, row, field; kept; line, tip, shaft, capacity, uplift
   pub reply : List ℕ
@@ -39,7 +42,7 @@ foundAfter c =
     let log = logIn (c .rows) in
     let pile = pileRecord (c .pile) in
     let table = tableOf (c .lent) in
-    replyOf (editReply (c .edit) log pile table) ∷ editLog (c .edit) log pile table ∷ editTable (c .edit) log pile table ∷ []
+    replyOf (editReply (c .edit) log pile (c .extra) table) ∷ editLog (c .edit) log pile table ∷ editTable (c .edit) log pile (c .extra) table ∷ []
 
 abbrev pub replace : ℕ → Row → Edit
 replace k r = asked 1 k 0 (rowBytes r)
@@ -63,9 +66,13 @@ rowsG = fineSand 4000 ∷ clay 16000 130
 abbrev pub slicesG : List Slice
 slicesG = slice 1000 2000 6000000 7 ∷ slice 3000 1000 7300000 7 ∷ slice 4000 2000 8000000 6 ∷ slice 6000 2000 8600000 6 ∷ slice 8000 2000 9000000 6 ∷ []
 
--- an edit of these rows for a pile, with G's slices lent; its reply, and the log and the table it leaves
+-- an edit of these rows for a pile with this extra record, G's slices lent; its reply, and the log and the table it leaves
+abbrev pub workedWith : SandRecord → Pile → Edit → List Row → List ℕ → List Row → List Slice → WorkedEdit
+workedWith extra p e rs reply now cs = record { edit = e; rows = rs; pile = p; extra = extra; lent = slicesG; reply = reply; rowsAfter = now; slicesAfter = cs }
+
+-- without one
 abbrev pub workedFor : Pile → Edit → List Row → List ℕ → List Row → List Slice → WorkedEdit
-workedFor p e rs reply now cs = record { edit = e; rows = rs; pile = p; lent = slicesG; reply = reply; rowsAfter = now; slicesAfter = cs }
+workedFor p e rs reply now cs = workedWith Absent p e rs reply now cs
 
 -- for A's pile
 abbrev pub workedEdit : Edit → List Row → List ℕ → List Row → List Slice → WorkedEdit
@@ -104,6 +111,13 @@ workedEdits =
     refusedEdit (insert 2 (row 2000 5 140 101)) rowsG 3 2 4 ∷
     -- 4: a log of 60,001 mm
     refusedEdit (insert 1 (fineSand 40001)) rowsG 4 0 0 ∷
-    -- sand just below the tip: the edit is accepted and holds 9; "the table becomes all zero; the log holds the edit"
+    -- sand just below the tip, and no record: the edit is accepted and holds 9; "the table becomes all zero; the log holds the edit"
     workedEdit (replace 2 (fineSand 16000)) rowsG (9 ∷ 0 ∷ 0 ∷ 0 ∷ 0 ∷ 0 ∷ 0 ∷ 0 ∷ 0 ∷ []) (fineSand 4000 ∷ fineSand 16000 ∷ []) [] ∷
+    -- 02 (iv), the same with a record: its numbers, by the record that the edit brings
+    workedWith (sandRecord 3000 10000 18000) pileA (replace 2 (fineSand 16000)) rowsG
+    (0 ∷ 0 ∷ 0 ∷ 1 ∷ 247450 ∷ 220598 ∷ 466431 ∷ 687029 ∷ 373144 ∷ [])
+    (fineSand 4000 ∷ fineSand 16000 ∷ [])
+    (slice 1000 2000 6000000 7 ∷ slice 3000 2000 7600000 7 ∷ slice 5000 2000 8400000 7 ∷ slice 7000 2000 8800000 7 ∷ slice 9000 1000 9100000 7 ∷ []) ∷
+    -- and with one that is out of range: the edit is accepted and holds 17
+    workedWith (sandRecord 2555 10000 18000) pileA (replace 2 (fineSand 16000)) rowsG (17 ∷ 0 ∷ 0 ∷ 0 ∷ 0 ∷ 0 ∷ 0 ∷ 0 ∷ 0 ∷ []) (fineSand 4000 ∷ fineSand 16000 ∷ []) [] ∷
     []

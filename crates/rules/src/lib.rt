@@ -1,4 +1,4 @@
-// The things document 01 speaks of, as types: soil, row, log, pile, slice, refusal, answer, and the cells of a table.
+// The things documents 01 and 02 speak of, as types: soil, row, log, pile, sand record, slice, refusal, answer, and the cells of a table.
 // Every other crate, and every definition in specs/, uses these.
 mod limits;
 mod widths;
@@ -72,6 +72,20 @@ pub struct Pile {
     pub grade: u16,
 }
 
+// What a sand tip brings: the friction angle of the soil at the base in hundredths of a degree, and two unit weights in N/m³, that of the soil
+// below, at the base, and the mean one of the soils above.
+pub struct SandNumbers {
+    pub angle: u32,
+    pub below: u32,
+    pub above: u32,
+}
+
+// The extra record of a sand tip. Absent is a case of its own, not three zeros.
+pub enum SandRecord {
+    Absent,
+    Given(SandNumbers),
+}
+
 // A slice as the table holds it: friction in 1/200 Pa, factor in tenths.
 #[repr(C)]
 pub struct Slice {
@@ -108,6 +122,15 @@ pub struct PileRead {
 pub struct SliceRead {
     pub refusal: u32,
     pub slice: Slice,
+}
+
+// The extra record of a sand tip as hosts give it: absent where given is 0.
+#[repr(C)]
+pub struct SandFields {
+    pub given: u32,
+    pub angle: u32,
+    pub below: u32,
+    pub above: u32,
 }
 
 // What a calculation or an edit replies: line in N/m, the other four in N.
@@ -149,4 +172,11 @@ pub struct Spot {
     pub down: u64,
     pub span: u64,
     pub across: u64,
+}
+
+// Where a number stands on a printed scale: past the mark at this place, by so many parts of the span to the next.
+pub struct OnScale {
+    pub place: usize,
+    pub past: u64,
+    pub span: u64,
 }

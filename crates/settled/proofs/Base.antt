@@ -14,6 +14,9 @@ larger _ _ _ h g = cc
 pub wide : Settled base-order.wide.Kinds.ps base-order.wide.Kinds.r base-order.wide.Reads.Pre base-order.wide.Reads.Learnt
 wide _ _ _ h g = cc
 
+pub wide-pair : Settled base-order.wide_pair.Kinds.ps base-order.wide_pair.Kinds.r base-order.wide_pair.Reads.Pre base-order.wide_pair.Reads.Learnt
+wide-pair _ _ _ h g = cc
+
 pub copy-in : Settled base-copies.copy_in.Kinds.ps base-copies.copy_in.Kinds.r base-copies.copy_in.Reads.Pre base-copies.copy_in.Reads.Learnt
 copy-in _ _ _ h g = (refl, cc)
 

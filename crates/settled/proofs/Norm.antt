@@ -15,6 +15,10 @@ use Rattle.norm_tip_rows.proofs as norm-tip-rows
 use Rattle.norm_friction.proofs as norm-friction
 use Rattle.norm_tips.proofs as norm-tips
 use Rattle.norm_tip_reads.proofs as norm-tip-reads
+use Rattle.norm_scales.proofs as norm-scales
+use Rattle.norm_alphas.proofs as norm-alphas
+use Rattle.norm_sand_caps.proofs as norm-sand-caps
+use Rattle.norm_sand_tips.proofs as norm-sand-tips
 use Rattle.norm_factors.proofs as norm-factors
 use Rattle.norm_grades.proofs as norm-grades
 
@@ -64,11 +68,44 @@ pascals _ _ _ h g = cc
 pub is-dash : Settled norm-tip-reads.is_dash.Kinds.ps norm-tip-reads.is_dash.Kinds.r norm-tip-reads.is_dash.Reads.Pre norm-tip-reads.is_dash.Reads.Learnt
 is-dash _ _ _ h g = cc
 
+pub on-angles : Settled norm-scales.on_angles.Kinds.ps norm-scales.on_angles.Kinds.r norm-scales.on_angles.Reads.Pre norm-scales.on_angles.Reads.Learnt
+on-angles _ _ _ h g = cc
+
+pub on-ratios : Settled norm-scales.on_ratios.Kinds.ps norm-scales.on_ratios.Kinds.r norm-scales.on_ratios.Reads.Pre norm-scales.on_ratios.Reads.Learnt
+on-ratios _ _ _ h g = cc
+
+pub on-diameters : Settled norm-scales.on_diameters.Kinds.ps norm-scales.on_diameters.Kinds.r norm-scales.on_diameters.Reads.Pre norm-scales.on_diameters.Reads.Learnt
+on-diameters _ _ _ h g = cc
+
+pub on-depths : Settled norm-scales.on_depths.Kinds.ps norm-scales.on_depths.Kinds.r norm-scales.on_depths.Reads.Pre norm-scales.on_depths.Reads.Learnt
+on-depths _ _ _ h g = cc
+
+pub alpha-1 : Settled norm-alphas.alpha_1.Kinds.ps norm-alphas.alpha_1.Kinds.r norm-alphas.alpha_1.Reads.Pre norm-alphas.alpha_1.Reads.Learnt
+alpha-1 _ _ _ h g = cc
+
+pub alpha-2 : Settled norm-alphas.alpha_2.Kinds.ps norm-alphas.alpha_2.Kinds.r norm-alphas.alpha_2.Reads.Pre norm-alphas.alpha_2.Reads.Learnt
+alpha-2 _ _ _ h g = cc
+
+pub alpha-3 : Settled norm-alphas.alpha_3.Kinds.ps norm-alphas.alpha_3.Kinds.r norm-alphas.alpha_3.Reads.Pre norm-alphas.alpha_3.Reads.Learnt
+alpha-3 _ _ _ h g = cc
+
+pub alpha-4 : Settled norm-alphas.alpha_4.Kinds.ps norm-alphas.alpha_4.Kinds.r norm-alphas.alpha_4.Reads.Pre norm-alphas.alpha_4.Reads.Learnt
+alpha-4 _ _ _ h g = cc
+
+pub sand-cap : Settled norm-sand-caps.sand_cap.Kinds.ps norm-sand-caps.sand_cap.Kinds.r norm-sand-caps.sand_cap.Reads.Pre norm-sand-caps.sand_cap.Reads.Learnt
+sand-cap _ _ _ h g = cc
+
+pub sand-resistance : Settled norm-sand-tips.sand_resistance.Kinds.ps norm-sand-tips.sand_resistance.Kinds.r norm-sand-tips.sand_resistance.Reads.Pre norm-sand-tips.sand_resistance.Reads.Learnt
+sand-resistance _ _ _ h g = cc
+
 pub factor : Settled norm-factors.factor.Kinds.ps norm-factors.factor.Kinds.r norm-factors.factor.Reads.Pre norm-factors.factor.Reads.Learnt
 factor _ _ _ h g = cc
 
 pub cut-depth : Settled norm-grades.cut_depth.Kinds.ps norm-grades.cut_depth.Kinds.r norm-grades.cut_depth.Reads.Pre norm-grades.cut_depth.Reads.Learnt
 cut-depth _ _ _ h g = cc
+
+pub below-cut : Settled norm-grades.below_cut.Kinds.ps norm-grades.below_cut.Kinds.r norm-grades.below_cut.Reads.Pre norm-grades.below_cut.Reads.Learnt
+below-cut _ _ _ h g = cc
 
 pub shift-of : Settled norm-grades.shift_of.Kinds.ps norm-grades.shift_of.Kinds.r norm-grades.shift_of.Reads.Pre norm-grades.shift_of.Reads.Learnt
 shift-of _ _ _ h g = cc

@@ -11,6 +11,7 @@ use Rattle.record_pile_ranges.proofs as record-pile-ranges
 use Rattle.record_row_bytes.proofs as record-row-bytes
 use Rattle.record_rows.proofs as record-rows
 use Rattle.record_lengths.proofs as record-lengths
+use Rattle.record_sand.proofs as record-sand
 use Rattle.record_unused.proofs as record-unused
 use Rattle.record_log_checks.proofs as record-log-checks
 use Rattle.record_logs.proofs as record-logs
@@ -118,3 +119,6 @@ clear-table _ _ _ h g = (refl, cc)
 
 pub put-slice : Settled record-slice-table.put_slice.Kinds.ps record-slice-table.put_slice.Kinds.r record-slice-table.put_slice.Reads.Pre record-slice-table.put_slice.Reads.Learnt
 put-slice _ _ _ h g = (refl, cc)
+
+pub sand-given : Settled record-sand.sand_given.Kinds.ps record-sand.sand_given.Kinds.r record-sand.sand_given.Reads.Pre record-sand.sand_given.Reads.Learnt
+sand-given _ _ _ h g = cc

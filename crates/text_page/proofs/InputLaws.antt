@@ -11,6 +11,7 @@ use lib.Seq.{take-all}
 use borrow.Author.Tests.{eqb-true, eqb-false, eq-eqb, ne-eqb}
 use Rattle.rules.specs.declared.Answer.{Answer}
 use Rattle.rules.specs.declared.Slice.{Slice}
+use Rattle.rules.specs.declared.SandRecord.the-variants.{Absent}
 use Rattle.rules.specs.Base.{pick, refuses, when}
 use Rattle.rules.specs.Limits.{forms, logSize, tableSize, formBy, limitOf, tableLimit}
 use Rattle.rules.specs.Packed.{rowsOf, pileOf}
@@ -58,15 +59,15 @@ again (n ∷ ns) len h = go (eqb len (logSize n)) (formBy logSize ns len) (again
         (λ (e : eqb (tableSize m) (tableSize n) ≡ false). rw e (on h))
         (sure (eqb (tableSize m) (tableSize n)))
 
-module _ (log pile zeros after : List ℕ) (a : Answer) (e : a ≡ calculated log pile zeros) (f : after ≡ tableAfter log pile zeros) (l : length after ≡ length zeros) where
-  held : refuses (lentChecks log pile zeros) ≡ false → TableOf (heldSlicesOf (rowsOf log) (pileOf pile)) after
+module _ (log pile zeros after : List ℕ) (a : Answer) (e : a ≡ calculated log pile Absent zeros) (f : after ≡ tableAfter log pile Absent zeros) (l : length after ≡ length zeros) where
+  held : refuses (lentChecks log pile zeros) ≡ false → TableOf (heldSlicesOf (rowsOf log) (pileOf pile) Absent) after
   unfolding lentChecks tableAfter freshTable limitOf tableLimit
   held h =
       let g = long log pile zeros (when-off 0 (lengthsWrong log pile zeros) (first-off (when (lengthsWrong log pile zeros) 1) _ h .0)) in
       let size : length after ≡ tableSize (limitOf log) = l ∙ g .size in
-      record { form = rw (size, again forms (length log) (g .form)) (g .form); fit = rows-fit (rowsOf log) pile; bytes = f ∙ (rw (h, size)) }
+      record { form = rw (size, again forms (length log) (g .form)) (g .form); fit = rows-fit (rowsOf log) pile Absent; bytes = f ∙ (rw (h, size)) }
 
-  pub shown : Printable a after (heldSlicesOf (rowsOf log) (pileOf pile))
+  pub shown : Printable a after (heldSlicesOf (rowsOf log) (pileOf pile) Absent)
   unfolding calculated
   shown =
       ⊎-elim (λ (h : refuses (lentChecks log pile zeros) ≡ true). inl (ap (λ (x : Answer). refuses (x .refusal)) e ∙ rw (h, h)))
@@ -75,9 +76,9 @@ module _ (log pile zeros after : List ℕ) (a : Answer) (e : a ≡ calculated lo
 
 -- what is laid out of the calculation on an input, cut as its form says, is the sheet's text
 pub sheet-laid : (input log pile zeros after bytes : List ℕ) (n at : ℕ) (a : Answer) → n ≡ inputLimit input → log ≡ inputLog n input → pile ≡ inputPile n input
-    → zeros ≡ replicate (tableSize n) 0 → a ≡ calculated log pile zeros → after ≡ tableAfter log pile zeros → length after ≡ length zeros
+    → zeros ≡ replicate (tableSize n) 0 → a ≡ calculated log pile Absent zeros → after ≡ tableAfter log pile Absent zeros → length after ≡ length zeros
     → ((cs : List Slice) → Printable a after cs → Holds pageSize bytes at (sheetOf a cs)) → Holds pageSize bytes at (sheetText input)
 unfolding sheetText
 sheet-laid input log pile zeros after bytes n at a told p q z e f l g =
-    let text : sheetText input ≡ sheetOf a (heldSlicesOf (rowsOf log) (pileOf pile)) = rw (← told, ← p, ← q, ← z, ← e) in
-    rw text (g (heldSlicesOf (rowsOf log) (pileOf pile)) (shown log pile zeros after a e f l))
+    let text : sheetText input ≡ sheetOf a (heldSlicesOf (rowsOf log) (pileOf pile) Absent) = rw (← told, ← p, ← q, ← z, ← e) in
+    rw text (g (heldSlicesOf (rowsOf log) (pileOf pile) Absent) (shown log pile zeros after a e f l))

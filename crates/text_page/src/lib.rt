@@ -6,6 +6,7 @@ use rules::MORE_PLACES;
 use rules::PLAIN_SIZE;
 use rules::ROW_SIZE;
 use rules::SLICE_SIZE;
+use rules::SandRecord;
 use rules::TABLE_SIZE;
 ghost use mathlib.Core.Path.{_≡_};
 ghost use mathlib.Core.List.{List};
@@ -88,7 +89,12 @@ fn put_sheet(bytes: &mut [u8], input: &[u8], limit: usize, table: &mut [u8]) -> 
     ensures { λ r. ⌜ Holds pageSize (now (bytes .exit)) r (sheetText (now (input .entry))) ⌝ }
 {
     let end = log_end(limit, input.len());
-    let answer = answer_calculation::calculate(&input[..end], &input[end..], table);
+    let answer = answer_calculation::calculate(
+        &input[..end],
+        &input[end..],
+        SandRecord::Absent,
+        table,
+    );
     lay_out(bytes, answer, table)
 }
 

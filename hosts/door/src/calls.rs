@@ -1,7 +1,7 @@
 //! The seven functions, and a safe call of each. A call hands slices over as pointer and length, for the call alone; every length is
 //! taken, and what one call lends does not overlap, since it is borrowed.
 
-use crate::{Answer, Log, Pile, Slice};
+use crate::{Answer, Log, Pile, Sand, Slice};
 
 extern "C" {
     fn psamathyr_calculate(
@@ -9,6 +9,7 @@ extern "C" {
         log_len: usize,
         pile: *const u8,
         pile_len: usize,
+        sand: Sand,
         table: *mut u8,
         table_len: usize,
     ) -> Answer;
@@ -17,6 +18,7 @@ extern "C" {
         log_len: usize,
         pile: *const u8,
         pile_len: usize,
+        sand: Sand,
         table: *mut u8,
         table_len: usize,
         kind: u32,
@@ -33,7 +35,7 @@ extern "C" {
 }
 
 /// Works out a pile in a log and fills the table.
-pub fn calculate(log: &[u8], pile: &[u8], table: &mut [u8]) -> Answer {
+pub fn calculate(log: &[u8], pile: &[u8], sand: Sand, table: &mut [u8]) -> Answer {
     // SAFETY: each pointer comes with its length, and nothing lent overlaps.
     unsafe {
         psamathyr_calculate(
@@ -41,6 +43,7 @@ pub fn calculate(log: &[u8], pile: &[u8], table: &mut [u8]) -> Answer {
             log.len(),
             pile.as_ptr(),
             pile.len(),
+            sand,
             table.as_mut_ptr(),
             table.len(),
         )
@@ -48,9 +51,11 @@ pub fn calculate(log: &[u8], pile: &[u8], table: &mut [u8]) -> Answer {
 }
 
 /// Edits a log (1 replace, 2 insert, 3 remove, 4 split), works it out and fills the table.
+#[allow(clippy::too_many_arguments)] // those of the C function
 pub fn edit(
     log: &mut [u8],
     pile: &[u8],
+    sand: Sand,
     table: &mut [u8],
     kind: u32,
     k: u32,
@@ -64,6 +69,7 @@ pub fn edit(
             log.len(),
             pile.as_ptr(),
             pile.len(),
+            sand,
             table.as_mut_ptr(),
             table.len(),
             kind,
@@ -79,6 +85,7 @@ pub fn edit(
 pub fn edit_without_row(
     log: &mut [u8],
     pile: &[u8],
+    sand: Sand,
     table: &mut [u8],
     kind: u32,
     k: u32,
@@ -91,6 +98,7 @@ pub fn edit_without_row(
             log.len(),
             pile.as_ptr(),
             pile.len(),
+            sand,
             table.as_mut_ptr(),
             table.len(),
             kind,

@@ -3,7 +3,7 @@
 //!
 //! A struct made of bytes that are numbered from 0 shows where its fields stand: the first byte of a field is its offset.
 
-use crate::{Answer, Log, Pile, Row, Slice};
+use crate::{Answer, Log, Pile, Row, Sand, Slice};
 use core::mem::{align_of, size_of, transmute};
 
 macro_rules! assert_layout {
@@ -38,6 +38,9 @@ assert_layout!(Log: size 400, align 4,
 assert_layout!(Pile: size 28, align 4,
     (refusal) at 0, (row) at 4, (field) at 8, (length) at 12, (section) at 13, (a) at 14,
     (b) at 16, (method) at 18, (head) at 20, (tip) at 22, (zero) at 24, (grade) at 26);
+
+assert_layout!(Sand: size 16, align 4,
+    (given) at 0, (angle) at 4, (weight_below) at 8, (weight_above) at 12);
 
 assert_layout!(Slice: size 16, align 4,
     (refusal) at 0, (top) at 4, (thickness) at 6, (friction) at 8, (factor) at 12);

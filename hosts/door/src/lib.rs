@@ -122,6 +122,20 @@ pub struct Pile {
     pub grade: i16,
 }
 
+/// The extra record of a sand tip: `psamathyr_sand`. The default is none.
+#[repr(C)]
+#[derive(Clone, Copy, Debug, Default, PartialEq, Eq)]
+pub struct Sand {
+    /// 0: none, and the rest is not looked at; any other number: given.
+    pub given: u32,
+    /// Friction angle below the tip, hundredths of a degree.
+    pub angle: u32,
+    /// Unit weight of the soil below the tip, N/m³.
+    pub weight_below: u32,
+    /// Mean unit weight of the soils above the tip, N/m³.
+    pub weight_above: u32,
+}
+
 /// The fields of a slice: `psamathyr_slice`.
 #[repr(C)]
 #[derive(Clone, Copy, Debug, Default, PartialEq, Eq)]

@@ -7,7 +7,7 @@
 //! let log = Log::of(&[Row { thickness_mm: 20_000, kind: Kind::Clay, index_hundredths: 30, saturation_hundredths: 95 }]).unwrap();
 //! let pile = Pile { section: Section::Circle { diameter_mm: 600 }, method: Method::Dry, head_mm: 1_000, tip_mm: 10_000 }.pack().unwrap();
 //! let mut table = Table::new();
-//! let numbers = calculate(&log, &pile, &mut table).unwrap();
+//! let numbers = calculate(&log, &pile, None, &mut table).unwrap();
 //! assert_eq!(numbers.capacity_n, 668_403);
 //! assert_eq!(table.slices().len(), 5);
 //! assert_eq!(table.slices()[0].friction_200ths_pa, 6_000_000);
@@ -21,13 +21,27 @@
 //! let pile = Pile { section: Section::Circle { diameter_mm: 600 }, method: Method::Dry, head_mm: 1_000, tip_mm: 10_000 };
 //! let filled = pile.graded(5_000).pack().unwrap();
 //! let mut table = Table::new();
-//! assert_eq!(calculate(&log, &filled, &mut table).unwrap().capacity_n, 749_268);
+//! assert_eq!(calculate(&log, &filled, None, &mut table).unwrap().capacity_n, 749_268);
+//! ```
+//!
+//! A tip in sand comes with the sand's record:
+//!
+//! ```
+//! # use psamathyr::{calculate, Kind, Log, Method, Pile, Refusal, Row, SandRecord, Section, Table};
+//! # let pile = Pile { section: Section::Circle { diameter_mm: 600 }, method: Method::Dry, head_mm: 1_000, tip_mm: 10_000 }.pack().unwrap();
+//! # let mut table = Table::new();
+//! let log = Log::of(&[Row { thickness_mm: 20_000, kind: Kind::FineSand, index_hundredths: 0, saturation_hundredths: 95 }]).unwrap();
+//! // 30 degrees, 10,000 N/m³ below the tip and 18,000 above it
+//! let sand = SandRecord { angle_hundredths: 3_000, weight_below_n_per_m3: 10_000, weight_above_n_per_m3: 18_000 };
+//! assert_eq!(calculate(&log, &pile, None, &mut table), Err(Refusal::SandTip));
+//! assert_eq!(calculate(&log, &pile, Some(sand), &mut table).unwrap().capacity_n, 687_029);
 //! ```
 #![deny(missing_docs)]
 #![forbid(unsafe_code)]
 
 mod pile;
 mod refusal;
+mod sand;
 
 pub use pile::{Method, Pile, PileRecord, Section, SitePile};
 use psamathyr_door as door;
@@ -35,6 +49,7 @@ pub use psamathyr_door::{
     GRADED_PILE_BYTES, LOG_BYTES, PILE_BYTES, PLACES, ROWS, ROW_BYTES, TABLE_BYTES,
 };
 pub use refusal::Refusal;
+pub use sand::SandRecord;
 
 /// What stands in a row.
 #[derive(Clone, Copy, Debug, PartialEq, Eq)]
@@ -238,9 +253,19 @@ impl Numbers {
     }
 }
 
-/// Works out a pile and fills the table. Under refusals 5 to 12 the table becomes all zero, under 1 to 4 it is left.
-pub fn calculate(log: &Log, pile: &PileRecord, table: &mut Table) -> Result<Numbers, Refusal> {
-    Numbers::of(&door::calculate(&log.bytes, pile.bytes(), &mut table.bytes))
+/// Works out a pile and fills the table. Under refusals 5 to 12 and 17 the table becomes all zero, under 1 to 4 it is left.
+pub fn calculate(
+    log: &Log,
+    pile: &PileRecord,
+    sand: Option<SandRecord>,
+    table: &mut Table,
+) -> Result<Numbers, Refusal> {
+    Numbers::of(&door::calculate(
+        &log.bytes,
+        pile.bytes(),
+        sand::fields(sand),
+        &mut table.bytes,
+    ))
 }
 
 /// A change of a log; rows count from 1.
@@ -284,7 +309,7 @@ pub struct Edited {
 }
 
 /// Changes the log and works the pile out again. `Err` is a refused edit: nothing has changed. `Ok` holds the answer, which may itself be a
-/// refusal of the pile (5 to 12).
+/// refusal of the pile (5 to 12 and 17).
 ///
 /// ```
 /// use psamathyr::*;
@@ -292,15 +317,16 @@ pub struct Edited {
 /// let mut log = Log::of(&[clay]).unwrap();
 /// let pile = Pile { section: Section::Circle { diameter_mm: 600 }, method: Method::Dry, head_mm: 1_000, tip_mm: 10_000 }.pack().unwrap();
 /// let mut table = Table::new();
-/// let before = calculate(&log, &pile, &mut table);
-/// let split = edit(&mut log, &pile, &mut table, Edit::Split { k: 1, x_mm: 7_777 }).unwrap();
+/// let before = calculate(&log, &pile, None, &mut table);
+/// let split = edit(&mut log, &pile, None, &mut table, Edit::Split { k: 1, x_mm: 7_777 }).unwrap();
 /// assert_eq!(split.answer, before);
 /// assert_eq!(split.kept, 5);
-/// assert_eq!(edit(&mut log, &pile, &mut table, Edit::Remove { k: 3 }), Err(Refusal::NoSuchEdit));
+/// assert_eq!(edit(&mut log, &pile, None, &mut table, Edit::Remove { k: 3 }), Err(Refusal::NoSuchEdit));
 /// ```
 pub fn edit(
     log: &mut Log,
     pile: &PileRecord,
+    sand: Option<SandRecord>,
     table: &mut Table,
     change: Edit,
 ) -> Result<Edited, Refusal> {
@@ -314,6 +340,7 @@ pub fn edit(
     let answer = door::edit(
         &mut log.bytes,
         pile.bytes(),
+        sand::fields(sand),
         &mut table.bytes,
         kind,
         k,

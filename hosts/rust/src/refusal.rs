@@ -29,7 +29,7 @@ pub enum Refusal {
     Depths,
     /// 8: log ends less than 5,000 mm below the tip.
     LogShort,
-    /// 9: sand just below the tip.
+    /// 9: a sand tip without its record or in a rectangle.
     SandTip,
     /// 10: seat too short.
     SeatShort,
@@ -41,6 +41,8 @@ pub enum Refusal {
     NoSuchEdit,
     /// 14: insert or split with 64 rows.
     Full,
+    /// 17: the record of a sand tip out of range, or the tip less than 4 diameters below natural ground or the cut.
+    SandRecord,
     /// A number that this wrapper does not know.
     Other(u32),
 }
@@ -63,6 +65,7 @@ impl Refusal {
             12 => Refusal::Dash,
             13 => Refusal::NoSuchEdit,
             14 => Refusal::Full,
+            17 => Refusal::SandRecord,
             number => Refusal::Other(number),
         })
     }
@@ -84,6 +87,7 @@ impl Refusal {
             Refusal::Dash => 12,
             Refusal::NoSuchEdit => 13,
             Refusal::Full => 14,
+            Refusal::SandRecord => 17,
             Refusal::Other(number) => number,
         }
     }
@@ -115,12 +119,16 @@ impl fmt::Display for Refusal {
                  or the tip is under 3,000 or over 40,000 mm, or is read as over 40,000 mm"
             ),
             Refusal::LogShort => write!(f, "the log ends less than 5,000 mm below the tip"),
-            Refusal::SandTip => write!(f, "sand stands just below the tip"),
+            Refusal::SandTip => write!(f, "a sand tip without its record or in a rectangle"),
             Refusal::SeatShort => write!(f, "the seat in the tip stratum is too short"),
             Refusal::TooSoft => write!(f, "the tip's liquidity index is over 0.60"),
             Refusal::Dash => write!(f, "the tip table has no value there"),
             Refusal::NoSuchEdit => write!(f, "no such edit, row or split point"),
             Refusal::Full => write!(f, "the log has no place for another row"),
+            Refusal::SandRecord => write!(
+                f,
+                "the sand's angle or a unit weight is out of range, or the tip is less than 4 diameters deep"
+            ),
             Refusal::Other(number) => write!(f, "refusal {number}"),
         }
     }

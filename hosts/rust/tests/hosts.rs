@@ -1,7 +1,7 @@
 //! The wrapper over the linked core, as a host uses it.
 use psamathyr::{
-    calculate, edit, Edit, Kind, Log, Method, Numbers, Pile, PileRecord, Refusal, Row, Section,
-    SitePile, Table,
+    calculate, edit, Edit, Kind, Log, Method, Numbers, Pile, PileRecord, Refusal, Row, SandRecord,
+    Section, SitePile, Table,
 };
 
 fn clay(thickness_mm: u16) -> Row {
@@ -35,7 +35,7 @@ fn case_a() {
     let log = Log::of(&[clay(20_000)]).unwrap();
     let record = pile().pack().unwrap();
     let mut table = Table::new();
-    assert_eq!(calculate(&log, &record, &mut table), Ok(A));
+    assert_eq!(calculate(&log, &record, None, &mut table), Ok(A));
     let slices = table.slices();
     assert_eq!(slices.len(), 5);
     assert_eq!((slices[4].top_mm, slices[4].thickness_mm), (9_000, 1_000));
@@ -51,8 +51,13 @@ fn typing_does_not_matter() {
     let record = pile().pack().unwrap();
     let mut one = Table::new();
     let mut forty = Table::new();
-    let a = calculate(&Log::of(&[clay(20_000)]).unwrap(), &record, &mut one);
-    let b = calculate(&Log::of(&[clay(500); 40]).unwrap(), &record, &mut forty);
+    let a = calculate(&Log::of(&[clay(20_000)]).unwrap(), &record, None, &mut one);
+    let b = calculate(
+        &Log::of(&[clay(500); 40]).unwrap(),
+        &record,
+        None,
+        &mut forty,
+    );
     assert_eq!(a, b);
     assert_eq!(one, forty);
 }
@@ -101,10 +106,10 @@ fn records_keep_their_length() {
     assert_eq!(PileRecord::of(&[]), Err(Refusal::Length));
 }
 
-/// Line, tip, shaft, capacity and uplift of a pile in so much clay.
-fn numbers(thickness_mm: u16, site: SitePile) -> Result<[u64; 5], Refusal> {
-    let log = Log::of(&[clay(thickness_mm)]).unwrap();
-    let it = calculate(&log, &site.pack().unwrap(), &mut Table::new())?;
+/// Line, tip, shaft, capacity and uplift of a pile in this row alone.
+fn numbers_in(row: Row, site: SitePile, sand: Option<SandRecord>) -> Result<[u64; 5], Refusal> {
+    let log = Log::of(&[row]).unwrap();
+    let it = calculate(&log, &site.pack().unwrap(), sand, &mut Table::new())?;
     Ok([
         it.line_n_per_m,
         it.tip_n,
@@ -112,6 +117,11 @@ fn numbers(thickness_mm: u16, site: SitePile) -> Result<[u64; 5], Refusal> {
         it.capacity_n,
         it.uplift_n,
     ])
+}
+
+/// The same in so much clay.
+fn numbers(thickness_mm: u16, site: SitePile) -> Result<[u64; 5], Refusal> {
+    numbers_in(clay(thickness_mm), site, None)
 }
 
 #[test]
@@ -173,7 +183,7 @@ fn refusals_in_words() {
     let log = Log::of(&[clay(14_999)]).unwrap();
     let mut table = Table { bytes: [7; 581] };
     assert_eq!(
-        calculate(&log, &pile().pack().unwrap(), &mut table),
+        calculate(&log, &pile().pack().unwrap(), None, &mut table),
         Err(Refusal::LogShort)
     );
     assert_eq!(table, Table::new());
@@ -184,10 +194,11 @@ fn edits_hold_the_answer() {
     let mut log = Log::of(&[clay(20_000)]).unwrap();
     let record = pile().pack().unwrap();
     let mut table = Table::new();
-    calculate(&log, &record, &mut table).unwrap();
+    calculate(&log, &record, None, &mut table).unwrap();
     let split = edit(
         &mut log,
         &record,
+        None,
         &mut table,
         Edit::Split { k: 1, x_mm: 7_777 },
     )
@@ -196,16 +207,17 @@ fn edits_hold_the_answer() {
     assert_eq!(log.rows().unwrap().len(), 2);
     let before = log;
     assert_eq!(
-        edit(&mut log, &record, &mut table, Edit::Remove { k: 3 }),
+        edit(&mut log, &record, None, &mut table, Edit::Remove { k: 3 }),
         Err(Refusal::NoSuchEdit)
     );
     assert_eq!(log, before);
-    let short = edit(&mut log, &record, &mut table, Edit::Remove { k: 2 }).unwrap();
+    let short = edit(&mut log, &record, None, &mut table, Edit::Remove { k: 2 }).unwrap();
     assert_eq!((short.answer, short.kept), (Err(Refusal::LogShort), 0));
     assert_eq!(table, Table::new());
     let back = edit(
         &mut log,
         &record,
+        None,
         &mut table,
         Edit::Insert {
             k: 2,
@@ -220,15 +232,158 @@ fn edits_hold_the_answer() {
 fn edits_go_by_the_grade() {
     let mut log = Log::of(&[clay(20_000)]).unwrap();
     let mut table = Table::new();
-    calculate(&log, &pile().pack().unwrap(), &mut table).unwrap();
+    calculate(&log, &pile().pack().unwrap(), None, &mut table).unwrap();
     let filled = pile().graded(5_000).pack().unwrap();
-    let due = calculate(&log, &filled, &mut Table::new());
+    let due = calculate(&log, &filled, None, &mut Table::new());
     let split = edit(
         &mut log,
         &filled,
+        None,
         &mut table,
         Edit::Split { k: 1, x_mm: 7_777 },
     )
     .unwrap();
     assert_eq!((split.answer, split.kept), (due, 0));
+}
+
+fn sand(kind: Kind) -> Row {
+    Row {
+        thickness_mm: 20_000,
+        kind,
+        index_hundredths: 0,
+        saturation_hundredths: 40,
+    }
+}
+
+const SAND: SandRecord = SandRecord {
+    angle_hundredths: 3_000,
+    weight_below_n_per_m3: 10_000,
+    weight_above_n_per_m3: 18_000,
+};
+
+#[test]
+fn sand_tips() {
+    let steep = SandRecord {
+        angle_hundredths: 4_333,
+        ..SAND
+    };
+    for (kind, worked, capped) in [
+        (
+            Kind::CoarseOrMediumSand,
+            [345_975, 220_598, 652_146, 872_744, 521_716],
+            [345_975, 1_130_972, 652_146, 1_783_118, 521_716],
+        ),
+        (
+            Kind::FineSand,
+            [247_450, 220_598, 466_431, 687_029, 373_144],
+            [247_450, 735_132, 466_431, 1_201_563, 373_144],
+        ),
+        (
+            Kind::SiltySand,
+            [180_425, 220_598, 340_092, 560_690, 272_073],
+            [180_425, 424_114, 340_092, 764_206, 272_073],
+        ),
+    ] {
+        let numbers = |record| numbers_in(sand(kind), pile().into(), record);
+        assert_eq!(numbers(Some(SAND)), Ok(worked));
+        assert_eq!(numbers(Some(steep)), Ok(capped));
+        assert_eq!(numbers(None), Err(Refusal::SandTip));
+    }
+    assert_eq!(
+        numbers_in(clay(20_000), pile().into(), Some(steep)),
+        numbers(20_000, pile().into())
+    );
+}
+
+#[test]
+fn sand_tips_of_graded_sites() {
+    let numbers = |head_mm, grade_mm| {
+        let site = Pile { head_mm, ..pile() }.graded(grade_mm);
+        numbers_in(sand(Kind::FineSand), site, Some(SAND))
+    };
+    assert_eq!(
+        numbers(1_000, -1_000),
+        Ok([247_450, 205_712, 466_431, 672_143, 373_144])
+    );
+    assert_eq!(
+        numbers(5_000, -5_000),
+        Ok([142_450, 132_842, 268_511, 401_353, 214_808])
+    );
+    assert_eq!(
+        numbers(1_000, 5_000),
+        Ok([271_250, 220_598, 511_293, 731_891, 409_034])
+    );
+}
+
+#[test]
+fn refusals_of_sand_tips() {
+    let refusal = |site: Pile, angle_hundredths, below, above| {
+        let record = SandRecord {
+            angle_hundredths,
+            weight_below_n_per_m3: below,
+            weight_above_n_per_m3: above,
+        };
+        numbers_in(sand(Kind::FineSand), site.into(), Some(record)).err()
+    };
+    let off = Some(Refusal::SandRecord);
+    assert_eq!(refusal(pile(), 2_556, 1, 30_000), None);
+    assert_eq!(refusal(pile(), 4_333, 30_000, 1), None);
+    for (angle, below, above) in [
+        (2_555, 10_000, 18_000),
+        (4_334, 10_000, 18_000),
+        (3_000, 0, 18_000),
+        (3_000, 30_001, 18_000),
+        (3_000, 10_000, 0),
+        (3_000, 10_000, 30_001),
+        (0, 0, 0),
+        (u32::MAX, u32::MAX, u32::MAX),
+    ] {
+        assert_eq!(refusal(pile(), angle, below, above), off);
+    }
+    let thick = |tip_mm| Pile {
+        section: Section::Circle { diameter_mm: 2_000 },
+        tip_mm,
+        ..pile()
+    };
+    assert_eq!(refusal(thick(8_000), 3_000, 10_000, 18_000), None);
+    assert_eq!(refusal(thick(7_999), 3_000, 10_000, 18_000), off);
+}
+
+#[test]
+fn sand_below_a_barrette() {
+    let barrette = Pile {
+        section: Section::Rectangle {
+            a_mm: 800,
+            b_mm: 400,
+        },
+        ..pile()
+    };
+    let refused = numbers_in(sand(Kind::SiltySand), barrette.into(), Some(SAND));
+    assert_eq!(refused, Err(Refusal::SandTip));
+    assert_eq!(Refusal::SandTip.number(), 9);
+    assert_eq!(Refusal::SandRecord.number(), 17);
+    assert!(numbers_in(clay(20_000), barrette.into(), Some(SAND)).is_ok());
+}
+
+#[test]
+fn edits_go_by_the_sand() {
+    let mut log = Log::of(&[clay(20_000)]).unwrap();
+    let record = pile().pack().unwrap();
+    let mut table = Table::new();
+    let row = sand(Kind::FineSand).pack().unwrap();
+    let mut replace = |record_of_sand| {
+        let change = Edit::Replace { k: 1, row };
+        let held = edit(&mut log, &record, record_of_sand, &mut table, change).unwrap();
+        (held.answer.map(|it| it.capacity_n), held.kept)
+    };
+    assert_eq!(replace(None), (Err(Refusal::SandTip), 0));
+    assert_eq!(replace(Some(SAND)), (Ok(687_029), 0));
+    assert_eq!(replace(Some(SAND)), (Ok(687_029), 5));
+    let weightless = SandRecord {
+        weight_above_n_per_m3: 0,
+        ..SAND
+    };
+    assert_eq!(replace(Some(weightless)), (Err(Refusal::SandRecord), 0));
+    assert_eq!(table, Table::new());
+    assert_eq!(log.rows().unwrap(), [sand(Kind::FineSand)]);
 }

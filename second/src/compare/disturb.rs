@@ -5,13 +5,14 @@
 use super::dice::Dice;
 use super::grades::disturb_grade;
 use super::makers::Site;
+use super::sands::{any_record, disturb_record, slender};
 use second::{Pile, Row};
 
-/// One of 25 ways, each as likely as the others.
+/// One of 29 ways, each as likely as the others.
 pub fn disturb(dice: &mut Dice, site: &mut Site) {
     let depth: u32 = site.rows.iter().map(|row| u32::from(row.thickness)).sum();
     let place = dice.below(site.rows.len() as u32) as usize;
-    match dice.below(25) {
+    match dice.below(29) {
         way @ 0..=4 => disturb_depths(dice, &mut site.pile, depth, way),
         way @ 5..=9 => disturb_pile(dice, &mut site.pile, way),
         way @ 10..=14 => disturb_row(dice, &mut site.rows[place], way),
@@ -19,6 +20,7 @@ pub fn disturb(dice: &mut Dice, site: &mut Site) {
         way @ 16..=19 => disturb_tip_soil(dice, site, way),
         20 => tip_near_end(dice, site, place),
         21..=23 => disturb_grade(dice, &mut site.pile),
+        24..=27 => disturb_sand(dice, site),
         _ => soil_of_first(&mut site.rows, place),
     }
 }
@@ -91,13 +93,31 @@ fn disturb_tip_soil(dice: &mut Dice, site: &mut Site, way: u32) {
             let saturation = dice.one_of(&[89, 90]);
             recolour(&mut site.rows, holder, |row| row.saturation = saturation);
         }
-        _ => {
-            let kind = dice.between(1, 3) as u8;
-            recolour(&mut site.rows, holder, |row| {
-                row.kind = kind;
-                row.index = 100;
-            });
+        _ => sand_below(dice, &mut site.rows, holder),
+    }
+}
+
+/// A row, and all rows joined to it by the same soil, to sand.
+fn sand_below(dice: &mut Dice, rows: &mut [Row], holder: usize) {
+    let kind = dice.between(1, 3) as u8;
+    recolour(rows, holder, |row| {
+        row.kind = kind;
+        row.index = 100;
+    });
+}
+
+/// The tip to sand where it stands in clay, then its record, or its diameter, to or just over a limit.
+fn disturb_sand(dice: &mut Dice, site: &mut Site) {
+    if let Some(holder) = holding(&site.rows, u32::from(site.pile.tip)) {
+        if site.rows[holder].kind > 3 {
+            sand_below(dice, &mut site.rows, holder);
+            slender(dice, &mut site.pile);
         }
+    }
+    match dice.below(6) {
+        0 => site.sand = any_record(dice),
+        1 => slender(dice, &mut site.pile),
+        _ => disturb_record(dice, &mut site.sand),
     }
 }
 

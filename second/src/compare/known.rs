@@ -8,10 +8,11 @@ use super::meter::Meter;
 use second::cases::{self, Known};
 use second::{printed, read_slice, Answer, Pile, Row, Slice, ROWS, SLICES, TABLE};
 
-fn lend(site: &Site) -> Lending {
+pub fn lend(site: &Site) -> Lending {
     Lending {
         log: site.log(),
         pile: site.pile(),
+        sand: site.sand,
         table: vec![0xC3; TABLE],
     }
 }
@@ -74,10 +75,7 @@ fn friction_cell(meter: &mut Meter, depth: u32, column: usize, head: &str, kilop
     for (kind, index) in soils {
         let upper = row(depth + 1_000, kind, index);
         let lower = row(2_000 + 5_000, 6, if depth < 15_000 { 155 } else { 125 });
-        let site = Site {
-            rows: vec![upper, lower],
-            pile: square(depth - 1_000, depth + 3_000),
-        };
+        let site = Site::plain(vec![upper, lower], square(depth - 1_000, depth + 3_000));
         meter.case(format!("{depth} mm, column {head}, kind {kind}"));
         let (_, answer, table) = meter.calculate(&lend(&site));
         let first = read_slice(&table, 0);
@@ -115,10 +113,7 @@ fn tip_cell(meter: &mut Meter, tip: u32, column: usize, index: u8, word: &str) {
     }
     for index in indexes {
         let kind = 4 + (column % 3) as u8;
-        let site = Site {
-            rows: vec![row(tip + 5_000, kind, index)],
-            pile: square(0, tip),
-        };
+        let site = Site::plain(vec![row(tip + 5_000, kind, index)], square(0, tip));
         meter.case(format!("{tip} mm, stored index {index}"));
         let (_, answer, _) = meter.calculate(&lend(&site));
         let right = match word.parse::<u64>() {
@@ -137,7 +132,7 @@ pub fn fullest(meter: &mut Meter) {
     let (rows, pile) = cases::fullest();
     let strata = rows.len();
     meter.case(format!("{strata} strata"));
-    let (_, answer, table) = meter.calculate(&lend(&Site { rows, pile }));
+    let (_, answer, table) = meter.calculate(&lend(&Site::plain(rows, pile)));
     let filled = (0..SLICES as u32).all(|place| read_slice(&table, place).thickness > 0);
     meter.count(answer.refusal == 0 && strata == ROWS && filled, || {
         format!("  not {SLICES} slices: {answer:?}")
@@ -185,10 +180,7 @@ fn first_slices(meter: &mut Meter, middle: u32, top: u32, thickness: u32) {
             saturation: 94,
             ..row(tip + 5_000 - (top + thickness), 6, 125)
         };
-        let site = Site {
-            rows: vec![upper, lower],
-            pile: square(top, tip),
-        };
+        let site = Site::plain(vec![upper, lower], square(top, tip));
         meter.case(format!("middle {middle} half mm, stored index {index}"));
         meter.calculate(&lend(&site));
     }
@@ -196,10 +188,10 @@ fn first_slices(meter: &mut Meter, middle: u32, top: u32, thickness: u32) {
 
 fn tips_at(meter: &mut Meter, tip: u32) {
     for index in (0..=90).step_by(30).chain(98..=162) {
-        let site = Site {
-            rows: vec![row(tip + 5_000, 4 + index % 3, index)],
-            pile: square(tip / 2, tip),
-        };
+        let site = Site::plain(
+            vec![row(tip + 5_000, 4 + index % 3, index)],
+            square(tip / 2, tip),
+        );
         meter.case(format!("tip {tip}, stored index {index}"));
         meter.calculate(&lend(&site));
     }
@@ -252,10 +244,7 @@ fn graded_slice(meter: &mut Meter, grade: i32, middle: i32) {
         let tip = (top + thickness + 2_000).max(3_000);
         let upper = row(top + thickness, 4 + index % 3, index);
         let lower = row(tip + 5_000 - (top + thickness), 6, 125);
-        let site = Site {
-            rows: vec![upper, lower],
-            pile: graded(square(top, tip), grade),
-        };
+        let site = Site::plain(vec![upper, lower], graded(square(top, tip), grade));
         meter.case(format!("grade {grade}, middle read at {middle} half mm"));
         meter.calculate(&lend(&site));
     }
@@ -269,23 +258,24 @@ fn graded_tip(meter: &mut Meter, grade: i32, read: i32) {
     }
     let head = (tip - 2_000).min((-grade).max(0));
     for index in [100, 125, 140, 141, 160] {
-        let site = Site {
-            rows: vec![row(tip as u32 + 5_000, 6, index)],
-            pile: graded(square(head as u32, tip as u32), grade),
-        };
+        let site = Site::plain(
+            vec![row(tip as u32 + 5_000, 6, index)],
+            graded(square(head as u32, tip as u32), grade),
+        );
         meter.case(format!("grade {grade}, tip read at {read}, index {index}"));
         meter.calculate(&lend(&site));
     }
 }
 
-/// The cases A to L with their printed numbers, and those of graded sites.
+/// The cases A to L with their printed numbers, those of graded sites and those of tips in sand.
 pub fn known_cases(meter: &mut Meter) {
-    meter.group("cases A to L, and A graded");
+    meter.group("cases A to L, A graded, tips in sand");
     for case in cases::all() {
         meter.case(format!("case {}", case.name));
         let lent = Lending {
             log: case.log.to_vec(),
             pile: case.pile.to_vec(),
+            sand: case.sand.into(),
             table: vec![0xC3; TABLE],
         };
         let (_, answer, table) = meter.calculate(&lent);

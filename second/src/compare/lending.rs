@@ -3,19 +3,21 @@
 #![forbid(unsafe_code)]
 
 use super::dice::Dice;
-use second::{GRADED_PILE, LOG, PILE, SLICE, SLICES, TABLE};
+use super::sands::any_record;
+use second::{Carried, GRADED_PILE, LOG, PILE, SLICE, SLICES, TABLE};
 
 /// What is lent to a call.
 #[derive(Clone, Debug)]
 pub struct Lending {
     pub log: Vec<u8>,
     pub pile: Vec<u8>,
+    pub sand: Carried,
     pub table: Vec<u8>,
 }
 
-/// Spoils what is lent: lengths, bits, bytes.
+/// Spoils what is lent: lengths, bits, bytes, the record of a sand tip.
 pub fn damage(dice: &mut Dice, lent: &mut Lending) {
-    match dice.below(12) {
+    match dice.below(13) {
         0 => resize(dice, &mut lent.log, LOG),
         1 => {
             let right = dice.one_of(&[PILE, GRADED_PILE]);
@@ -37,6 +39,7 @@ pub fn damage(dice: &mut Dice, lent: &mut Lending) {
         }
         9 => recount(dice, &mut lent.log),
         10 => fill_unused(dice, &mut lent.log),
+        11 => lent.sand = any_record(dice),
         _ => renew_used(dice, &mut lent.log),
     }
 }

@@ -150,6 +150,7 @@ fn read_seeded(meter: &mut Meter, seed: u64, cases: u64) {
         let mut lent = Lending {
             log: site.log(),
             pile: site.pile(),
+            sand: site.sand,
             table: Vec::new(),
         };
         if dice.once_in(2) {

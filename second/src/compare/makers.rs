@@ -4,17 +4,28 @@
 
 use super::dice::Dice;
 use super::grades::{below_cut, grade, tip_as_read};
+use super::sands::{any_record, record, slender};
 use second::cases::log_of;
-use second::{pile_bytes, Pile, Row, ROWS};
+use second::{pile_bytes, Carried, Pile, Row, ROWS};
 
-/// A log's rows and a pile, their fields not yet packed.
+/// A log's rows and a pile, their fields not yet packed, and the record of a sand tip.
 #[derive(Clone, Debug)]
 pub struct Site {
     pub rows: Vec<Row>,
     pub pile: Pile,
+    pub sand: Carried,
 }
 
 impl Site {
+    /// Without the record of a sand tip.
+    pub fn plain(rows: Vec<Row>, pile: Pile) -> Site {
+        Site {
+            rows,
+            pile,
+            sand: Carried::default(),
+        }
+    }
+
     pub fn log(&self) -> Vec<u8> {
         log_of(&self.rows).to_vec()
     }
@@ -62,9 +73,9 @@ fn any_soil(dice: &mut Dice) -> Row {
     soil(dice, kind)
 }
 
-/// A soil in which a tip may stand that is read at a depth.
-fn tip_soil(dice: &mut Dice, read: u32) -> Row {
-    let kind = dice.between(4, 6) as u8;
+/// A soil in which a tip may stand that is read at a depth: sand if it is to be, else clay.
+fn tip_soil(dice: &mut Dice, read: u32, sandy: bool) -> Row {
+    let kind = dice.between(4, 6) as u8 - if sandy { 3 } else { 0 };
     let mut row = soil(dice, kind);
     let highest = if read > 20_000 { 140 } else { 160 };
     while row.index > highest {
@@ -211,10 +222,20 @@ pub fn good(dice: &mut Dice) -> Site {
     section(dice, &mut pile);
     let top = tip - seat(dice, &pile);
     grade(dice, &mut pile, top);
-    let rows = ground(dice, &pile, top);
+    let sandy = in_sand(dice);
+    if sandy {
+        slender(dice, &mut pile);
+    }
+    let rows = ground(dice, &pile, top, sandy);
     pile.head = head(dice, tip, top);
     below_cut(dice, &mut pile);
-    Site { rows, pile }
+    let sand = record(dice, sandy);
+    Site { rows, pile, sand }
+}
+
+/// Whether a site's tip is to stand in sand.
+fn in_sand(dice: &mut Dice) -> bool {
+    dice.once_in(4)
 }
 
 /// How far a tip stands in its stratum: mostly enough, often just so.
@@ -232,7 +253,7 @@ fn seat(dice: &mut Dice, pile: &Pile) -> u32 {
 }
 
 /// Rows around a pile's tip whose stratum begins at a top.
-fn ground(dice: &mut Dice, pile: &Pile, top: u32) -> Vec<Row> {
+fn ground(dice: &mut Dice, pile: &Pile, top: u32, sandy: bool) -> Vec<Row> {
     let tip = u32::from(pile.tip);
     let depth = match dice.below(8) {
         0 => tip + 5_000,
@@ -254,7 +275,7 @@ fn ground(dice: &mut Dice, pile: &Pile, top: u32) -> Vec<Row> {
     let mut rows = layers(dice, top, places);
     rows.push(Row {
         thickness: (under - top) as u16,
-        ..tip_soil(dice, tip_as_read(pile))
+        ..tip_soil(dice, tip_as_read(pile), sandy)
     });
     if under < depth {
         let places = (ROWS - rows.len()).min(4);
@@ -287,10 +308,11 @@ fn fullest(dice: &mut Dice) -> Site {
         rows.push(row);
     }
     let tip = 18 * 2_001 + 45 + 2_001;
+    let sandy = in_sand(dice);
     rows.push(Row {
         thickness: 2_001 + 5_000 + dice.below(3) as u16,
         saturation: dice.one_of(&[89, 90, 95]),
-        ..tip_soil(dice, tip)
+        ..tip_soil(dice, tip, sandy)
     });
     let mut pile = Pile {
         section: 1,
@@ -307,7 +329,8 @@ fn fullest(dice: &mut Dice) -> Site {
     }
     let head = u32::from(pile.head);
     grade(dice, &mut pile, head);
-    Site { rows, pile }
+    let sand = record(dice, sandy);
+    Site { rows, pile, sand }
 }
 
 /// Rows and a pile whose fields are all in range, and nothing more.
@@ -336,7 +359,8 @@ pub fn loose(dice: &mut Dice) -> Site {
     section(dice, &mut pile);
     let head = u32::from(pile.head);
     grade(dice, &mut pile, head);
-    Site { rows, pile }
+    let sand = any_record(dice);
+    Site { rows, pile, sand }
 }
 
 /// Every record with every value of one field.

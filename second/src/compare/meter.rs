@@ -4,7 +4,7 @@
 #![forbid(unsafe_code)]
 
 use super::lending::Lending;
-use second::{door, Answer, Log, Pile, Slice};
+use second::{door, Answer, Carried, Log, Pile, Slice};
 use std::fmt::Debug;
 
 /// Bytes that stand around a lent piece and must stay.
@@ -162,12 +162,12 @@ impl Meter {
     pub fn calculate(&mut self, lent: &Lending) -> (bool, Answer, Vec<u8>) {
         let mut table = lent.table.clone();
         self.before(|| lending(lent));
-        let own = second::calculate(&lent.log, &lent.pile, &mut table);
+        let own = second::calculate(&lent.log, &lent.pile, lent.sand.record(), &mut table);
 
         self.guarded = !self.guarded;
         let mut held = self.hold(lent);
         let [log, pile, filled] = &mut held;
-        let reply = door::calculate(log.piece(), pile.piece(), filled.piece());
+        let reply = door::calculate(log.piece(), pile.piece(), lent.sand, filled.piece());
 
         let expected = [&lent.log[..], &lent.pile, &table];
         let same = reply == own && unchanged(&held, expected);
@@ -187,17 +187,16 @@ impl Meter {
         let own = second::edit(
             &mut lent.log,
             &lent.pile,
+            lent.sand.record(),
             &mut lent.table,
-            edit.kind,
-            edit.k,
-            edit.x,
+            [edit.kind, edit.k, edit.x],
             edit.row,
         );
 
         self.guarded = !self.guarded;
         let mut held = self.hold(&before);
         let mut brought = Held::new(edit.row, self.guarded);
-        let reply = edit_by_library(&mut held, edit, brought.piece());
+        let reply = edit_by_library(&mut held, before.sand, edit, brought.piece());
 
         let expected = [&lent.log[..], &lent.pile, &lent.table];
         let same = reply == own && unchanged(&held, expected) && brought.back() == Some(edit.row);
@@ -284,14 +283,14 @@ impl Meter {
     }
 }
 
-fn edit_by_library(held: &mut [Held; 3], edit: &Edit, row: &[u8]) -> Answer {
+fn edit_by_library(held: &mut [Held; 3], sand: Carried, edit: &Edit, row: &[u8]) -> Answer {
     let [log, pile, table] = held;
     let (log, pile, table) = (log.piece(), pile.piece(), table.piece());
-    let Edit { kind, k, x, .. } = *edit;
+    let numbers = [edit.kind, edit.k, edit.x];
     if edit.without_row {
-        door::edit_without_row(log, pile, table, kind, k, x)
+        door::edit_without_row(log, pile, sand, table, numbers)
     } else {
-        door::edit(log, pile, table, kind, k, x, row)
+        door::edit(log, pile, sand, table, numbers, row)
     }
 }
 
@@ -308,9 +307,10 @@ fn hex(bytes: &[u8]) -> String {
 
 fn lending(lent: &Lending) -> String {
     format!(
-        "  log {}\n  pile {}\n  table {}\n",
+        "  log {}\n  pile {}\n  {:?}\n  table {}\n",
         hex(&lent.log),
         hex(&lent.pile),
+        lent.sand,
         hex(&lent.table)
     )
 }

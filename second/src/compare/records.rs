@@ -228,7 +228,7 @@ pub fn slices(meter: &mut Meter, seed: u64, cases: u64) {
         let dice = &mut Dice::new(seed, 12, case);
         let site = good(dice);
         let mut table = vec![0; TABLE];
-        second::calculate(&site.log(), &site.pile(), &mut table);
+        second::calculate(&site.log(), &site.pile(), site.sand.record(), &mut table);
         for _ in 0..4 {
             let place = dice.below(90);
             meter.read_slice(&table, place);

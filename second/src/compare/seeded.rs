@@ -9,19 +9,24 @@ use super::grades::{disturb_grade, grade, Grades};
 use super::lending::{damage, spot, table, Lending};
 use super::makers::{good, loose, Site};
 use super::meter::{Edit, Meter};
+use super::sands::{any_record, disturb_record, record, Sands};
 use second::{Answer, Pile, Row, SLICE, TABLE};
 
 /// How often each refusal came.
-struct Seen([u64; 15]);
+struct Seen([u64; 18]);
+
+/// The refusals of a calculation, and those of an edit besides: 15 was withdrawn, and 16 has not come yet.
+const OF_CALCULATIONS: [usize; 14] = [0, 1, 2, 3, 4, 5, 6, 7, 8, 9, 10, 11, 12, 17];
+const OF_EDITS: [usize; 2] = [13, 14];
 
 impl Seen {
     fn add(&mut self, answer: &Answer) {
-        self.0[answer.refusal as usize % 16] += 1;
+        self.0[answer.refusal as usize] += 1;
     }
 
     /// Counts a failure for a refusal of the list that never came.
-    fn all(&self, meter: &mut Meter, list: std::ops::RangeInclusive<usize>) {
-        for number in list {
+    fn all(&self, meter: &mut Meter, list: &[usize]) {
+        for &number in list {
             meter.case(format!("refusal {number}"));
             meter.count(self.0[number] > 0, || "  was never reached".to_string());
         }
@@ -53,10 +58,20 @@ fn site(dice: &mut Dice) -> Site {
     }
 }
 
-fn right_table(log: &[u8], pile: &[u8]) -> Vec<u8> {
+fn right_table(lent: &Lending) -> Vec<u8> {
     let mut table = vec![0; TABLE];
-    second::calculate(log, pile, &mut table);
+    second::calculate(&lent.log, &lent.pile, lent.sand.record(), &mut table);
     table
+}
+
+/// What a site lends, without a table yet.
+fn lend(site: &Site) -> Lending {
+    Lending {
+        log: site.log(),
+        pile: site.pile(),
+        sand: site.sand,
+        table: Vec::new(),
+    }
 }
 
 fn used(table: &[u8]) -> usize {
@@ -68,8 +83,9 @@ fn used(table: &[u8]) -> usize {
 
 pub fn calculations(meter: &mut Meter, seed: u64, cases: u64) {
     meter.group("calculations");
-    let mut seen = Seen([0; 15]);
+    let mut seen = Seen([0; 18]);
     let mut grades = Grades::default();
+    let mut sands = Sands::default();
     let mut fullest = 0;
     for case in 0..cases {
         if meter.enough() {
@@ -80,30 +96,28 @@ pub fn calculations(meter: &mut Meter, seed: u64, cases: u64) {
         let (_, answer, table) = meter.calculate(&lent);
         seen.add(&answer);
         grades.add(&lent.pile, &answer);
+        sands.add(&lent, &answer);
         if answer.refusal == 0 {
             fullest = fullest.max(used(&table));
         }
     }
     if !meter.enough() {
-        seen.all(meter, 0..=12);
+        seen.all(meter, &OF_CALCULATIONS);
         grades.all(meter);
+        sands.all(meter);
         meter.case("slices".to_string());
         meter.count(fullest == 83, || {
             "  83 slices were never reached".to_string()
         });
     }
-    meter.note(format!("{}; {}", seen.text(), grades.text()));
+    let texts = [seen.text(), grades.text(), sands.text()];
+    meter.note(texts.join("; "));
 }
 
 fn lent_to_calculate(dice: &mut Dice) -> Lending {
-    let site = site(dice);
-    let mut lent = Lending {
-        log: site.log(),
-        pile: site.pile(),
-        table: Vec::new(),
-    };
+    let mut lent = lend(&site(dice));
     lent.table = match dice.below(8) {
-        0 => table(dice, || right_table(&lent.log, &lent.pile)),
+        0 => table(dice, || right_table(&lent)),
         1 => vec![0; TABLE],
         2 => dice.bytes(TABLE),
         _ => vec![dice.byte(); TABLE],
@@ -121,6 +135,7 @@ fn lent_to_calculate(dice: &mut Dice) -> Lending {
 struct Tally {
     seen: Seen,
     grades: Grades,
+    sands: Sands,
     steps: u64,
     /// Accepted edits that kept no slice, some, all.
     kept: [u64; 3],
@@ -139,8 +154,10 @@ impl Tally {
 
     /// Counts a failure for what must come in a long enough comparison and never came.
     fn all(&self, meter: &mut Meter) {
-        self.seen.all(meter, 0..=14);
+        self.seen.all(meter, &OF_CALCULATIONS);
+        self.seen.all(meter, &OF_EDITS);
         self.grades.all(meter);
+        self.sands.all(meter);
         meter.case("kept".to_string());
         meter.count(self.kept.iter().all(|times| *times > 0), || {
             "  none, some or all were never kept".to_string()
@@ -150,10 +167,11 @@ impl Tally {
     fn text(&self) -> String {
         let [none, some, every] = self.kept;
         format!(
-            "{} edits; kept none {none}, some {some}, all {every}; {}; {}",
+            "{} edits; kept none {none}, some {some}, all {every}; {}; {}; {}",
             self.steps,
             self.seen.text(),
-            self.grades.text()
+            self.grades.text(),
+            self.sands.text()
         )
     }
 }
@@ -161,8 +179,9 @@ impl Tally {
 pub fn edits(meter: &mut Meter, seed: u64, runs: u64) {
     meter.group("runs of edits");
     let mut tally = Tally {
-        seen: Seen([0; 15]),
+        seen: Seen([0; 18]),
         grades: Grades::default(),
+        sands: Sands::default(),
         steps: 0,
         kept: [0; 3],
     };
@@ -191,6 +210,9 @@ fn run_of_edits(meter: &mut Meter, dice: &mut Dice, run: u64, tally: &mut Tally)
         if dice.once_in(6) {
             move_pile(dice, &mut lent);
         }
+        if dice.once_in(3) {
+            renew_record(dice, &mut lent);
+        }
         let (kind, k, x, row) = choose(dice, &lent.log, mode, dragged);
         let edit = Edit {
             kind,
@@ -199,23 +221,48 @@ fn run_of_edits(meter: &mut Meter, dice: &mut Dice, run: u64, tally: &mut Tally)
             row: &row,
             without_row: false,
         };
-        let (passed, answer) = if dice.once_in(12) {
-            // Something spoilt for this one call only.
-            let mut spoilt = lent.clone();
-            damage(dice, &mut spoilt);
-            meter.edit(&mut spoilt, &edit)
-        } else {
-            let (passed, answer) = meter.edit(&mut lent, &edit);
-            tally.keep(&answer, &lent.table);
-            tally.grades.add(&lent.pile, &answer);
-            (passed, answer)
-        };
-        tally.steps += 1;
-        tally.seen.add(&answer);
-        if !passed {
+        if !one_edit(meter, dice, &mut lent, &edit, tally) {
             break;
         }
     }
+}
+
+/// True if it passed.
+fn one_edit(
+    meter: &mut Meter,
+    dice: &mut Dice,
+    lent: &mut Lending,
+    edit: &Edit,
+    tally: &mut Tally,
+) -> bool {
+    let (passed, answer) = if dice.once_in(12) {
+        // Something spoilt for this one call only.
+        let mut spoilt = lent.clone();
+        damage(dice, &mut spoilt);
+        meter.edit(&mut spoilt, edit)
+    } else {
+        let (passed, answer) = meter.edit(lent, edit);
+        tally.keep(&answer, &lent.table);
+        tally.grades.add(&lent.pile, &answer);
+        tally.sands.add(lent, &answer);
+        (passed && held(meter, dice, lent, &answer), answer)
+    };
+    tally.steps += 1;
+    tally.seen.add(&answer);
+    passed
+}
+
+/// Once in a while, what an accepted edit holds is worked out afresh: with the log that it left, and with its own record.
+fn held(meter: &mut Meter, dice: &mut Dice, lent: &Lending, answer: &Answer) -> bool {
+    if matches!(answer.refusal, 1..=4 | 13 | 14) || !dice.once_in(32) {
+        return true;
+    }
+    let (passed, afresh, table) = meter.calculate(lent);
+    let held = Answer { kept: 0, ..*answer };
+    passed
+        && meter.count(afresh == held && table == lent.table, || {
+            format!("  held {held:?}, afresh {afresh:?}")
+        })
 }
 
 /// The site on which a run begins, and what the run mostly does.
@@ -242,12 +289,8 @@ fn start(dice: &mut Dice) -> (Site, Mode) {
 }
 
 fn lent_to_edit(dice: &mut Dice, site: &Site) -> Lending {
-    let mut lent = Lending {
-        log: site.log(),
-        pile: site.pile(),
-        table: Vec::new(),
-    };
-    lent.table = table(dice, || right_table(&lent.log, &lent.pile));
+    let mut lent = lend(site);
+    lent.table = table(dice, || right_table(&lent));
     lent
 }
 
@@ -280,6 +323,15 @@ fn move_pile(dice: &mut Dice, lent: &mut Lending) {
         _ => regrade(dice, &mut pile),
     }
     lent.pile = second::pile_bytes(&pile);
+}
+
+/// Another record of a sand tip for the next edits, mostly a good one, else one at a limit, or none.
+fn renew_record(dice: &mut Dice, lent: &mut Lending) {
+    match dice.below(6) {
+        0 => lent.sand = any_record(dice),
+        1 | 2 => disturb_record(dice, &mut lent.sand),
+        _ => lent.sand = record(dice, true),
+    }
 }
 
 /// Another grade or length: one with which the pile is mostly accepted, or one at a limit.

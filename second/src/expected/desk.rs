@@ -1,19 +1,21 @@
-//! The three buffers of the edit test, the steps that it reads and the lines that it must print.
+//! The four buffers of the edit test, the steps that it reads and the lines that it must print.
 //!
-//! A step is 25 bytes: what it is (0 an edit; 1, 2, 3 bytes put into the log, the pile record, the table); the lent lengths of the three
-//! (2 bytes each); kind, k, x (4 bytes each); the length of the new row, and its five bytes.
+//! A step is 25 bytes: what it is (0 an edit; 1, 2, 3, 4 bytes put into the log, the pile record, the table, the sand record); the lent
+//! lengths of the first three (2 bytes each); kind, k, x (4 bytes each); the length of the new row, and its five bytes. The sand record is
+//! 16 bytes, from which every edit takes its own: given, angle, weight below, weight above, 4 bytes each, the highest first.
 
 #![forbid(unsafe_code)]
 
 use second::cases::log_of;
-use second::{pile_bytes, Answer, Pile, Row, LOG, PILE, TABLE};
+use second::{pile_bytes, Answer, Carried, Pile, Row, LOG, PILE, TABLE};
 
-/// The step that puts bytes into the log, the pile record or the table.
+/// The step that puts bytes into the log, the pile record, the table or the sand record.
 #[derive(Clone, Copy)]
 pub enum Piece {
     Log = 1,
     Pile = 2,
     Table = 3,
+    Sand = 4,
 }
 
 /// An edit, and how much of log, pile record and table it lends.
@@ -42,12 +44,13 @@ pub struct Desk {
     log: [u8; 400],
     pile: [u8; 20],
     table: [u8; 700],
+    sand: [u8; 16],
     /// Bytes of the pile record that was put last.
     record: u16,
     pub steps: Vec<u8>,
     pub lines: Vec<String>,
     /// How many edits got each refusal.
-    pub refusals: [usize; 15],
+    pub refusals: [usize; 18],
 }
 
 impl Desk {
@@ -56,10 +59,11 @@ impl Desk {
             log: [0; 400],
             pile: [0; 20],
             table: [0; 700],
+            sand: [0; 16],
             record: PILE as u16,
             steps: Vec::new(),
             lines: Vec::new(),
-            refusals: [0; 15],
+            refusals: [0; 18],
         }
     }
 
@@ -83,6 +87,7 @@ impl Desk {
                 Piece::Log => &mut self.log,
                 Piece::Pile => &mut self.pile,
                 Piece::Table => &mut self.table,
+                Piece::Sand => &mut self.sand,
             };
             let place = &mut buffer[from..from + part.len()];
             if place == part {
@@ -108,6 +113,33 @@ impl Desk {
         self.record = u16::from(pile.length);
     }
 
+    pub fn set_sand(&mut self, sand: Carried) {
+        let Carried {
+            given,
+            angle,
+            weight_below,
+            weight_above,
+        } = sand;
+        let words = [given, angle, weight_below, weight_above].map(u32::to_be_bytes);
+        self.put(Piece::Sand, &words.concat(), 0);
+    }
+
+    /// The sand record as it stands.
+    fn sand(&self) -> Carried {
+        let word = |place: usize| {
+            let bytes = &self.sand[4 * place..4 * place + 4];
+            bytes
+                .iter()
+                .fold(0, |word, byte| word << 8 | u32::from(*byte))
+        };
+        Carried {
+            given: word(0),
+            angle: word(1),
+            weight_below: word(2),
+            weight_above: word(3),
+        }
+    }
+
     /// The right lengths of log, pile record and table, with the record as it was put last.
     pub fn lent(&self) -> [u16; 3] {
         [LOG as u16, self.record, TABLE as u16]
@@ -131,13 +163,13 @@ impl Desk {
         let [log, pile, table] = edit.lent.map(usize::from);
         let mut row = five_of(edit.row).to_vec();
         row.resize(edit.row.len(), 0);
+        let sand = self.sand().record();
         let answer = second::edit(
             &mut self.log[..log.min(400)],
             &self.pile[..pile.min(20)],
+            sand,
             &mut self.table[..table.min(700)],
-            edit.kind,
-            edit.k,
-            edit.x,
+            [edit.kind, edit.k, edit.x],
             &row,
         );
         self.refusals[answer.refusal as usize] += 1;

@@ -152,7 +152,7 @@ const GRADES: [i32; 14] = [
 ];
 
 /// A pile with a record of eight bytes, or of ten; the head is mostly not above a cut.
-fn any_graded_pile(twister: &mut Twister) -> Pile {
+pub fn any_graded_pile(twister: &mut Twister) -> Pile {
     let pile = any_pile(twister);
     if twister.percent(30) {
         return pile;

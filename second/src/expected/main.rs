@@ -1,4 +1,5 @@
-//! Writes what the edit test and the record test read and must print, and the sheets of the stored inputs, from this crate alone.
+//! Writes what the edit test and the record test read and must print, what the norm test must print, and the sheets of the stored inputs,
+//! from this crate alone.
 
 #![forbid(unsafe_code)]
 
@@ -7,9 +8,11 @@ mod edges;
 mod fields;
 mod graded;
 mod held;
+mod norm;
 mod record_cases;
 mod records;
 mod runs;
+mod sands;
 mod sheets;
 mod twister;
 
@@ -21,7 +24,7 @@ use twister::Twister;
 
 const USAGE: &str = "usage: expected FROM TO
   reads FROM/tests/sheet/*.hex
-  writes TO/crates/edit_test and TO/crates/record_test, stdin and stdout, and TO/tests/sheet/*.out";
+  writes TO/crates/edit_test and TO/crates/record_test, stdin and stdout, TO/crates/norm_test/stdout and TO/tests/sheet/*.out";
 
 fn main() -> io::Result<()> {
     let folders: Vec<String> = std::env::args().skip(1).collect();
@@ -33,6 +36,7 @@ fn main() -> io::Result<()> {
         }
     };
     write_edits(&to.join("crates/edit_test"))?;
+    write_norm(&to.join("crates/norm_test"))?;
     write_records(&to.join("crates/record_test"))?;
     write_sheets(&from.join("tests/sheet"), &to.join("tests/sheet"))
 }
@@ -43,8 +47,10 @@ fn text(lines: &[String]) -> String {
 
 fn write_edits(folder: &Path) -> io::Result<()> {
     let desk = edits();
-    // each refusal of the list comes, and no refusal too
-    assert!(desk.refusals.iter().all(|count| *count > 0));
+    // each refusal of the list comes, and no refusal too; 15 and 16 are none
+    for (number, count) in desk.refusals.iter().enumerate() {
+        assert_eq!(*count > 0, !matches!(number, 15 | 16), "refusal {number}");
+    }
     let steps = desk.steps.len() / 25;
     assert!(steps <= 10_000, "more steps than the program takes");
     fs::create_dir_all(folder)?;
@@ -68,7 +74,17 @@ fn edits() -> Desk {
     }
     graded::edges(&mut desk);
     graded::runs(&mut desk, &mut twister);
+    sands::edges(&mut desk);
+    sands::runs(&mut desk, &mut twister);
     desk
+}
+
+fn write_norm(folder: &Path) -> io::Result<()> {
+    let lines = norm::lines();
+    fs::create_dir_all(folder)?;
+    fs::write(folder.join("stdout"), text(&lines))?;
+    println!("norm_test: {} cells", lines.len());
+    Ok(())
 }
 
 fn write_records(folder: &Path) -> io::Result<()> {

@@ -115,7 +115,7 @@ pub fn mixed(desk: &mut Desk, twister: &mut Twister, draw: fn(&mut Twister) -> P
     }
 }
 
-fn mixed_edit(desk: &mut Desk, twister: &mut Twister) {
+pub fn mixed_edit(desk: &mut Desk, twister: &mut Twister) {
     let rows = desk.rows();
     let count = rows.len() as u32;
     let more: [u32; 2] = if count < 20 { [2, 4] } else { [3, 3] };

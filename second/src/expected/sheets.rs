@@ -28,11 +28,11 @@ pub fn bytes_of(text: &str) -> Vec<u8> {
         .collect()
 }
 
-/// What is printed for a log and a pile record, one behind the other; another length is refused.
+/// What is printed for a log and a pile record, one behind the other; another length is refused. A sheet brings no sand record.
 pub fn sheet(bytes: &[u8]) -> String {
     let (log, pile) = bytes.split_at(bytes.len().min(LOG));
     let mut table = [0; TABLE];
-    let answer = calculate(log, pile, &mut table);
+    let answer = calculate(log, pile, None, &mut table);
     let mut text = format!(
         "answer {} {} {}\n",
         answer.refusal, answer.row, answer.field

@@ -19,12 +19,19 @@ impl Desk {
             pile: pile_bytes(&pile),
             table: vec![0; TABLE],
         };
-        calculate(&desk.log, &desk.pile, &mut desk.table);
+        calculate(&desk.log, &desk.pile, None, &mut desk.table);
         desk
     }
 
     fn edit(&mut self, kind: u32, k: u32, x: u32, row: &[u8]) -> Answer {
-        edit(&mut self.log, &self.pile, &mut self.table, kind, k, x, row)
+        edit(
+            &mut self.log,
+            &self.pile,
+            None,
+            &mut self.table,
+            [kind, k, x],
+            row,
+        )
     }
 
     /// Refused, and nothing is touched.

@@ -194,25 +194,28 @@ fn lent_records() {
     let mut table = [7; TABLE];
     let ten = pile_bytes(&graded(circle(1_000, 10_000), 5_000));
     for length in [0, 7, 9] {
-        assert_eq!(calculate(&log, &ten[..length], &mut table).refusal, 1);
+        assert_eq!(calculate(&log, &ten[..length], None, &mut table).refusal, 1);
         assert_eq!(
-            edit(&mut log, &ten[..length], &mut table, 4, 1, 9, &[]).refusal,
+            edit(&mut log, &ten[..length], None, &mut table, [4, 1, 9], &[]).refusal,
             1
         );
     }
     let eleven = [&ten[..], &[0]].concat();
-    assert_eq!(calculate(&log, &eleven, &mut table).refusal, 1);
-    assert_eq!(edit(&mut log, &eleven, &mut table, 4, 1, 9, &[]).refusal, 1);
+    assert_eq!(calculate(&log, &eleven, None, &mut table).refusal, 1);
+    assert_eq!(
+        edit(&mut log, &eleven, None, &mut table, [4, 1, 9], &[]).refusal,
+        1
+    );
     assert_eq!(table, [7; TABLE]);
 
-    let plain = edit(&mut log, &ten[..8], &mut table, 4, 1, 9, &[]);
+    let plain = edit(&mut log, &ten[..8], None, &mut table, [4, 1, 9], &[]);
     assert_eq!((plain.refusal, plain.line, plain.kept), (0, 212_100, 0));
-    let filled = edit(&mut log, &ten, &mut table, 4, 1, 1, &[]);
+    let filled = edit(&mut log, &ten, None, &mut table, [4, 1, 1], &[]);
     assert_eq!(
         numbers(&filled),
         [232_500, 311_017, 438_251, 749_268, 350_600]
     );
     assert_eq!((filled.refusal, filled.kept), (0, 0));
-    let again = edit(&mut log, &ten, &mut table, 3, 1, 0, &[]);
+    let again = edit(&mut log, &ten, None, &mut table, [3, 1, 0], &[]);
     assert_eq!((again.refusal, again.kept), (0, 5));
 }

@@ -15,7 +15,7 @@ lengths c = long _ _ _ (sym (c .before .lengths-wrong .ensures) ∙ c .if1 .left
 returns : tie.Need-returns
 returns c =
     let short = c .before .before in
-    let w = wrong _ _ _ (sym (short .before .lengths-wrong .ensures) ∙ short .if1 .taken) in
+    let w = wrong _ _ _ _ (sym (short .before .lengths-wrong .ensures) ∙ short .if1 .taken) in
     (c .refused .ensures ∙ ap refused (c .before .refuse .ensures) ∙ w .0, w .1)
 
 check-content-requires : tie.Need-check-content-requires
@@ -24,7 +24,7 @@ check-content-requires c κs = lengths c .form
 returns-2 : tie.Need-returns-2
 returns-2 c =
     let checked = c .before .before .before .before in
-    let w = log-refused (lengths (checked .before)) (checked .check-content .ensures) (c .before .if2 .taken) in
+    let w = log-refused (lengths (checked .before)) (checked .check-content .ensures) _ (c .before .if2 .taken) in
     (c .refused2 .ensures ∙ w .0, w .1)
 
 work-out-requires : tie.Need-work-out-requires
@@ -38,7 +38,7 @@ returns-3 c =
     let done = c .before .before .before in
     let right = done .before .before in
     let checked = right .before .before .before in
-    worked (lengths (checked .before)) (checked .check-content .ensures) (right .if2 .left) _ _ (done .work-out .ensures .0 .0) (done .work-out .ensures .1)
+    worked (lengths (checked .before)) (checked .check-content .ensures) (right .if2 .left) _ _ _ (done .work-out .ensures .0 .0) (done .work-out .ensures .1)
 
 pub calculate-spec : {M : Type 1} → statement M
 calculate-spec =

@@ -24,18 +24,18 @@ returns c =
     let clear = c .before .before in
     let wrong = clear .before .before in
     let first = wrong .before .before in
-    fresh _ _ _ _ _ (read first .take-pile .ensures) (no-early _ _ _ _ (told first) (wrong .if1 .taken) _ _ _ (clear .no-work .ensures))
+    fresh _ _ _ _ _ _ (read first .take-pile .ensures) (no-early _ _ _ _ _ (told first) (wrong .if1 .taken) _ _ _ (clear .no-work .ensures))
 
 work-pile-requires : tie.Need-work-pile-requires
 work-pile-requires c κs =
     let right = c .before in
     let first = right .before .before in
-    (start first .pre .0, past-early _ _ 0 _ (told first) (right .if1 .left), start first .pre .2)
+    (start first .pre .0, past-early _ _ (start first .args .extra) 0 _ (told first) (right .if1 .left), start first .pre .2)
 
 returns-2 : tie.Need-returns-2
 returns-2 c =
     let worked = c .before .before in
-    fresh _ _ _ _ _ (read (worked .before .before .before .before) .take-pile .ensures) (worked .work-pile .ensures)
+    fresh _ _ _ _ _ _ (read (worked .before .before .before .before) .take-pile .ensures) (worked .work-pile .ensures)
 
 pub work-out-spec : {M : Type 1} → statement M
 work-out-spec =

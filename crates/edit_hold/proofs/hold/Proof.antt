@@ -22,14 +22,14 @@ kept-count-requires c κs =
     let work = c .before .before .before .before in
     let copy = work .before .before in
     let start = copy .before .before .before .before .before in
-    let n = few (start .args .log .now) (start .args .pile .now) _ (start .pre .0) (work .work-out .ensures .0 .1) in
+    let n = few (start .args .log .now) (start .args .pile .now) _ _ (start .pre .0) (work .work-out .ensures .0 .1) in
     let l = room (start .args .log .now) (start .args .table .now) (start .pre .0) (start .pre .2) in
     (omega (arith, n, l), omega (arith, n, l, ap (λ (t : List ℕ). length t) (copy .table-copy .ensures)))
 
 cast-answer : tie.Need-cast-answer
 cast-answer c =
     let start = c .before .before .before .before .before .before .before .before .before .before .before .before .before in
-    record { fits = omega (arith, few (start .args .log .now) (start .args .pile .now) _ (start .pre .0) (c .before .before .before .before .before .before .work-out .ensures .0 .1), c .before .kept-count .ensures .1) }
+    record { fits = omega (arith, few (start .args .log .now) (start .args .pile .now) _ _ (start .pre .0) (c .before .before .before .before .before .before .work-out .ensures .0 .1), c .before .kept-count .ensures .1) }
 
 returns : tie.Need-returns
 returns c =
@@ -37,7 +37,7 @@ returns c =
     let copy = work .before .before in
     let start = copy .before .before .before .before .before in
     let w = work .work-out .ensures in
-    held _ _ _ _ _ _ _ _ (start .pre .2) (w .0 .0) (w .0 .1) (w .1) (copy .table-copy .ensures) (c .before .kept-count .ensures .0)
+    held _ _ _ _ _ _ _ _ _ (start .pre .2) (w .0 .0) (w .0 .1) (w .1) (copy .table-copy .ensures) (c .before .kept-count .ensures .0)
 
 pub hold-spec : {M : Type 1} → statement M
 hold-spec =

@@ -16,7 +16,7 @@ fair : (c : tie.Else1)
 fair c = nothing-said _ _ _ _ _ (c .before .before .before .check-edit .ensures) (c .if1 .left)
 
 returns : tie.Need-returns
-returns c = refused-edit _ _ _ _ _ _ (said _ _ _ _ _ (c .before .before .before .before .check-edit .ensures)) (c .before .if1 .taken) (c .refused .ensures)
+returns c = refused-edit _ _ _ _ _ _ _ (said _ _ _ _ _ (c .before .before .before .before .check-edit .ensures)) (c .before .if1 .taken) (c .refused .ensures)
 
 change-requires : tie.Need-change-requires
 change-requires c κs = let a = allowed _ _ _ _ (fair (c .before)) in ((a .passed, a .change), a .row)
@@ -30,7 +30,7 @@ hold-requires c κs =
 returns-2 : tie.Need-returns-2
 returns-2 c =
     let past = c .before .before .before .before .before .before .before .before .before in
-    accepted-edit _ _ _ _ (fair past) _ (c .before .before .before .before .before .before .before .change .ensures) _ _ (c .before .before .hold .ensures .0) (c .before .before .hold .ensures .1)
+    accepted-edit _ _ _ _ (fair past) _ (c .before .before .before .before .before .before .before .change .ensures) _ _ _ (c .before .before .hold .ensures .0) (c .before .before .hold .ensures .1)
 
 pub edit-spec : {M : Type 1} → statement M
 edit-spec =

@@ -44,7 +44,7 @@ returns c =
     let input = o .args .input .now in
     let same = cut-same input _ _ (cut .log-end .ensures) in
     sheet-laid input _ _ _ _ _ _ _ _ (o .pre .1) (same .0) (part-whole input (cut .log-end .result) ∙ same .1) (o .pre .3) (worked .calculate .ensures .0) (worked .calculate .ensures .1)
-    (worked .calculate .kept .1 .1 .0) (laid .lay-out .ensures)
+    (worked .calculate .kept .1 .1 .1 .0) (laid .lay-out .ensures)
 
 pub put-sheet-spec : {M : Type 1} → statement M
 put-sheet-spec =

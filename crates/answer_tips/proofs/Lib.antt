@@ -1,0 +1,2 @@
+-- Laws of the work on a tip, which the proofs of the functions cite.
+pub mod WorkLaws

@@ -1,0 +1,2 @@
+-- What the work on a tip needs and gives.
+pub mod Tips

@@ -1,0 +1,2 @@
+-- The lines of table 7.7 as they are stored.
+pub mod Lines
