@@ -41,15 +41,10 @@ fn given_tip(pile: Pile, brought: SandNumbers, soil: Soil, top: u64) -> TipWork
         return refused_tip(refusal);
     }
     let h = below_cut(pile.grade, pile.tip);
+    let depth = depth_read(pile.grade, pile.tip);
     TipWork {
         refusal: 0,
-        resistance: sand_resistance(
-            brought,
-            h,
-            pile.a as u64,
-            soil.kind,
-            depth_read(pile.grade, pile.tip),
-        ),
+        resistance: sand_resistance(brought, h, pile.a as u64, soil.kind, depth),
     }
 }
 

@@ -8,10 +8,9 @@ use rules::OnScale;
 ghost use mathlib.Core.Path.{_≡_};
 ghost use Prim.Native.Nat.{_+_, _*_, _<_, _≤_};
 ghost use Rattle.rules.specs.Bounds.{cellBound};
-ghost use Rattle.rules.specs.SandTips.{sandCell};
+ghost use Rattle.rules.specs.SandTips.{sandLines, sandCell};
 ghost use Rattle.rules.specs.SandTips as rule;
 ghost use Rattle.norm_scales.specs.Scales.{diameterBound, heightBound, Marked};
-ghost use Rattle.norm_alphas.specs.Lines.{Printed};
 
 // A line for each coefficient, with a cell for each angle: α1 and α2 in tenths, α3 at ten h/d and α4 at two diameters in hundredths.
 const LINES: [[u16; 9]; 14] = [
@@ -31,9 +30,16 @@ const LINES: [[u16; 9]; 14] = [
     [25, 24, 23, 22, 21, 20, 19, 18, 17],
 ];
 
+// The lines as they are printed.
+fn lines() -> [[u16; 9]; 14]
+    ensures { λ r. ⌜ r ≡ sandLines ⌝ }
+{
+    LINES
+}
+
 // A cell of the lent lines.
 fn cell(lines: &[[u16; 9]; 14], i: usize, j: usize) -> u64
-    requires { ⌜ Printed (now lines) × (i < 14) × (j < 9) ⌝ }
+    requires { ⌜ (now lines ≡ sandLines) × (i < 14) × (j < 9) ⌝ }
     ensures { λ r. ⌜ (r ≡ sandCell i j) × (r ≤ cellBound) ⌝ }
 {
     wide_pair(lines[i][j])
@@ -41,7 +47,7 @@ fn cell(lines: &[[u16; 9]; 14], i: usize, j: usize) -> u64
 
 // A line between the two angles around a reading, times their span.
 fn at_angle(lines: &[[u16; 9]; 14], s: OnScale, i: usize) -> u64
-    requires { ⌜ Printed (now lines) × Marked 7 s × (i < 14) ⌝ }
+    requires { ⌜ (now lines ≡ sandLines) × Marked 7 s × (i < 14) ⌝ }
     ensures { λ r. ⌜ (r ≡ rule.atAngle s i) × (r ≤ s .span * cellBound) ⌝ }
 {
     let j = s.place;
@@ -50,7 +56,7 @@ fn at_angle(lines: &[[u16; 9]; 14], s: OnScale, i: usize) -> u64
 
 // A coefficient of one line, printed in tenths.
 fn of_tenths(lines: &[[u16; 9]; 14], s: OnScale, i: usize) -> u64
-    requires { ⌜ Printed (now lines) × Marked 7 s × (i < 14) ⌝ }
+    requires { ⌜ (now lines ≡ sandLines) × Marked 7 s × (i < 14) ⌝ }
     ensures { λ r. ⌜ (r ≡ rule.ofTenths s i) × (r ≤ cellBound * 1000) ⌝ }
 {
     at_angle(lines, s, i) * 1000 / s.span
@@ -58,7 +64,7 @@ fn of_tenths(lines: &[[u16; 9]; 14], s: OnScale, i: usize) -> u64
 
 // A coefficient between two lines, printed in hundredths: rounded down once, after both interpolations.
 fn of_hundredths(lines: &[[u16; 9]; 14], s: OnScale, first: usize, m: OnScale) -> u64
-    requires { ⌜ Printed (now lines) × Marked 7 s × Marked 8 m × (first + m .place < 13) ⌝ }
+    requires { ⌜ (now lines ≡ sandLines) × Marked 7 s × Marked 8 m × (first + m .place < 13) ⌝ }
     ensures { λ r. ⌜ (r ≡ rule.ofHundredths s first m) × (r ≤ cellBound * 100) ⌝ }
 {
     let i = first + m.place;
@@ -71,13 +77,15 @@ fn of_hundredths(lines: &[[u16; 9]; 14], s: OnScale, first: usize, m: OnScale) -
 pub fn alpha_1(t: u64) -> u64
     ensures { λ r. ⌜ (r ≡ rule.alpha1 t) × (r ≤ cellBound * 1000) ⌝ }
 {
-    of_tenths(&LINES, on_angles(t), 0)
+    let lines = lines();
+    of_tenths(&lines, on_angles(t), 0)
 }
 
 pub fn alpha_2(t: u64) -> u64
     ensures { λ r. ⌜ (r ≡ rule.alpha2 t) × (r ≤ cellBound * 1000) ⌝ }
 {
-    of_tenths(&LINES, on_angles(t), 1)
+    let lines = lines();
+    of_tenths(&lines, on_angles(t), 1)
 }
 
 // α3 of a tip h deep, and α4, of a diameter d, in millimetres.
@@ -85,11 +93,13 @@ pub fn alpha_3(t: u64, h: u64, d: u64) -> u64
     requires { ⌜ (h ≤ heightBound) × (0 < d) × (d ≤ diameterBound) ⌝ }
     ensures { λ r. ⌜ (r ≡ rule.alpha3 t h d) × (r ≤ cellBound * 100) ⌝ }
 {
-    of_hundredths(&LINES, on_angles(t), 2, on_ratios(h, d))
+    let lines = lines();
+    of_hundredths(&lines, on_angles(t), 2, on_ratios(h, d))
 }
 
 pub fn alpha_4(t: u64, d: u64) -> u64
     ensures { λ r. ⌜ (r ≡ rule.alpha4 t d) × (r ≤ cellBound * 100) ⌝ }
 {
-    of_hundredths(&LINES, on_angles(t), 12, on_diameters(d))
+    let lines = lines();
+    of_hundredths(&lines, on_angles(t), 12, on_diameters(d))
 }

@@ -1,2 +1,2 @@
--- The columns of table 7.2 as they are stored and read.
+-- What a column of table 7.2 is read to.
 pub mod Columns

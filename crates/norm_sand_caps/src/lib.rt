@@ -7,10 +7,10 @@ use rules::OnScale;
 ghost use mathlib.Core.Path.{_≡_};
 ghost use Prim.Native.Nat.{_-_, _*_, _<_, _≤_};
 ghost use Rattle.rules.specs.Bounds.{cellBound, resistanceBound};
-ghost use Rattle.rules.specs.SandTips.{capCell};
+ghost use Rattle.rules.specs.SandTips.{capColumns, capCell};
 ghost use Rattle.rules.specs.SandTips as rule;
 ghost use Rattle.norm_scales.specs.Scales.{Marked};
-ghost use Rattle.norm_sand_caps.specs.Columns.{Printed, capAt};
+ghost use Rattle.norm_sand_caps.specs.Columns.{capAt};
 
 // A column for each kind of sand, 1 by medium, 2 by fine, 3 by silty: kPa at ten depths.
 const COLUMNS: [[u16; 10]; 3] = [
@@ -19,9 +19,16 @@ const COLUMNS: [[u16; 10]; 3] = [
     [1100, 1250, 1300, 1400, 1500, 1650, 1800, 1950, 2100, 2250],
 ];
 
+// The columns as they are printed.
+fn columns() -> [[u16; 10]; 3]
+    ensures { λ r. ⌜ r ≡ capColumns ⌝ }
+{
+    COLUMNS
+}
+
 // A cell of the lent columns.
 fn cell(columns: &[[u16; 10]; 3], i: usize, j: usize) -> u64
-    requires { ⌜ Printed (now columns) × (i < 3) × (j < 10) ⌝ }
+    requires { ⌜ (now columns ≡ capColumns) × (i < 3) × (j < 10) ⌝ }
     ensures { λ r. ⌜ (r ≡ capCell i j) × (r ≤ cellBound) ⌝ }
 {
     wide_pair(columns[i][j])
@@ -29,7 +36,7 @@ fn cell(columns: &[[u16; 10]; 3], i: usize, j: usize) -> u64
 
 // A column between the two depths around a reading, in whole Pa.
 fn cap_at(columns: &[[u16; 10]; 3], s: OnScale, i: usize) -> u64
-    requires { ⌜ Printed (now columns) × Marked 8 s × (i < 3) ⌝ }
+    requires { ⌜ (now columns ≡ capColumns) × Marked 8 s × (i < 3) ⌝ }
     ensures { λ r. ⌜ (r ≡ capAt s i) × (r ≤ resistanceBound) ⌝ }
 {
     let j = s.place;
@@ -41,5 +48,6 @@ pub fn sand_cap(kind: u8, depth: u64) -> u64
     requires { ⌜ kind ≤ 3 ⌝ }
     ensures { λ r. ⌜ (r ≡ rule.sandCap kind depth) × (r ≤ resistanceBound) ⌝ }
 {
-    cap_at(&COLUMNS, on_depths(depth), past(1, kind) as usize)
+    let columns = columns();
+    cap_at(&columns, on_depths(depth), past(1, kind) as usize)
 }

@@ -23,7 +23,8 @@ pub extern "C" fn psamathyr_calculate(
     ensures reply { λ r. ⌜ r ≡ calculated (now (log .entry)) (now (pile .entry)) (sandFrom sand) (now (table .entry)) ⌝ }
     ensures table { λ _. ⌜ now (table .exit) ≡ tableAfter (now (log .entry)) (now (pile .entry)) (sandFrom sand) (now (table .entry)) ⌝ }
 {
-    answer_calculation::calculate(log, pile, record_sand::sand_given(sand), table)
+    let extra = record_sand::sand_given(sand);
+    answer_calculation::calculate(log, pile, extra, table)
 }
 
 #[no_mangle]
@@ -41,16 +42,8 @@ pub extern "C" fn psamathyr_edit(
     ensures log { λ _. ⌜ now (log .exit) ≡ editLog (asked kind k x (now (row .entry))) (now (log .entry)) (now (pile .entry)) (now (table .entry)) ⌝ }
     ensures table { λ _. ⌜ now (table .exit) ≡ editTable (asked kind k x (now (row .entry))) (now (log .entry)) (now (pile .entry)) (sandFrom sand) (now (table .entry)) ⌝ }
 {
-    edit_reply::edit(
-        log,
-        pile,
-        record_sand::sand_given(sand),
-        table,
-        kind,
-        k,
-        x,
-        row,
-    )
+    let extra = record_sand::sand_given(sand);
+    edit_reply::edit(log, pile, extra, table, kind, k, x, row)
 }
 
 #[no_mangle]

@@ -26,8 +26,8 @@ sand-resistance-requires c κs =
 
 returns-2 : tie.Need-returns-2
 returns-2 c =
-    let read = c .before in
-    let cut = read .before .before in
+    let read = c .before .before in
+    let cut = read .before in
     let right = cut .before in
     let tip = right .before in
     let o = tip .before in
@@ -37,5 +37,5 @@ returns-2 c =
 
 pub given-tip-spec : {M : Type 1} → statement M
 given-tip-spec =
-    tie.close (tie.spec sand-refusal-requires (λ c κs. search needs) returns (λ c κs. search needs) (λ c. search needs) (λ c κs. search needs)
+    tie.close (tie.spec sand-refusal-requires (λ c κs. search needs) returns (λ c κs. search needs) (λ c κs. search needs) (λ c. search needs)
     sand-resistance-requires returns-2)

@@ -1,9 +1,8 @@
--- The stored lines are those printed, by one computed test; the rest is the lines from 12 on at the angle.
+-- Of the stored lines, the lines from 12 on at the angle.
 use mathlib.Core.Path.{_∙_, ap₂}
 use native.Mathlib.Omega.{arith}
 use Rattle.rules.specs.declared.OnScale.{OnScale}
 use Rattle.rules.specs.SandTips.{ofHundredths}
-use Rattle.norm_alphas.proofs.LineLaws.{printed}
 use borrow.Author.Needs.{needs}
 use Rattle.norm_alphas.proofs.alpha_4.Statement.{statement}
 use Rattle.norm_alphas.proofs.alpha_4.Tie as tie
@@ -11,7 +10,7 @@ use Rattle.norm_alphas.proofs.alpha_4.Tie as tie
 of-hundredths-requires : tie.Need-of-hundredths-requires
 of-hundredths-requires c κs =
     let stands = c .on-diameters .ensures .1 in
-    (printed _ tt, c .before .on-angles .ensures .1, record { place = omega (arith, stands .place); past = stands .past; some = stands .some; span = stands .span }, omega (arith, stands .place))
+    (c .before .before .before .lines .ensures, c .before .on-angles .ensures .1, record { place = omega (arith, stands .place); past = stands .past; some = stands .some; span = stands .span }, omega (arith, stands .place))
 
 returns : tie.Need-returns
 returns c =
@@ -21,4 +20,4 @@ returns c =
     )
 
 pub alpha-4-spec : {M : Type 1} → statement M
-alpha-4-spec = tie.close (tie.spec (λ c κs. search needs) (λ c κs. search needs) of-hundredths-requires returns)
+alpha-4-spec = tie.close (tie.spec (λ c κs. search needs) (λ c κs. search needs) (λ c κs. search needs) of-hundredths-requires returns)

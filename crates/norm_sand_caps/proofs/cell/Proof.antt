@@ -1,15 +1,11 @@
 -- The stored number is the printed cell.
-use mathlib.Core.Path.{_∙_}
-use Rattle.norm_sand_caps.proofs.ColumnLaws.{cells}
+use Rattle.norm_sand_caps.proofs.ColumnLaws.{stored}
 use borrow.Author.Needs.{needs}
 use Rattle.norm_sand_caps.proofs.cell.Statement.{statement}
 use Rattle.norm_sand_caps.proofs.cell.Tie as tie
 
 returns : tie.Need-returns
-returns c =
-    let o = c .before .before .pre in
-    let e = c .wide-pair .ensures ∙ o .0 .cells _ _ (o .1) (o .2) in
-    (e, rw e (cells _ _ (o .1) (o .2)))
+returns c = let o = c .before .before .pre in stored _ _ _ _ (o .0) (o .1) (o .2) (c .wide-pair .ensures)
 
 pub cell-spec : {M : Type 1} → statement M
 cell-spec =

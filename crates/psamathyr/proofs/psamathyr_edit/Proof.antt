@@ -18,7 +18,7 @@ same-length-2 c = search needs
 returns : tie.Need-returns
 returns c =
     let edited = c .before .before .before .before in
-    rw (edited .before .before .sand-given .ensures) at (edited .edit .ensures)
+    rw (edited .before .before .before .sand-given .ensures) at (edited .edit .ensures)
 
 pub psamathyr-edit-spec : {M : Type 1} → statement M
 psamathyr-edit-spec = tie.close (tie.spec sand-given-requires edit-requires same-length same-length-2 returns)
