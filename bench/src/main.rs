@@ -5,6 +5,7 @@
 
 mod plain;
 mod sands;
+mod shallow;
 
 use psamathyr_door::{Answer, Sand, LOG_BYTES as LOG, PILE_BYTES as PILE, TABLE_BYTES as TABLE};
 use std::process::ExitCode;
@@ -309,7 +310,7 @@ fn main() -> ExitCode {
         return count(&words[1..]);
     }
     let scenes = scenes();
-    if !scenes.iter().all(same) || !sands::same() {
+    if !scenes.iter().all(same) || !sands::same() || !shallow::same() {
         return ExitCode::FAILURE;
     }
     println!("library and plain calculator give the same");
@@ -328,6 +329,7 @@ mod tests {
     fn scenes_are_accepted() {
         assert!(scenes().iter().all(same));
         assert!(sands::same());
+        assert!(shallow::same());
     }
 
     fn five(answer: &Answer) -> [u64; 5] {
@@ -378,6 +380,57 @@ mod tests {
         assert_eq!(graded(20_000, 1_000, 10_000, 5_000), (0, numbers));
         let numbers = [176_100, 268_605, 331_940, 600_545, 265_552];
         assert_eq!(graded(20_000, 5_000, 12_000, -5_000), (0, numbers));
+    }
+
+    /// Case A's pile with another head and a grade, in an upper row above case A's clay.
+    fn shallow_numbers(upper: Row, head: u64, grade: i16) -> [u64; 5] {
+        let mut pile = pile_of(1, head, 10_000).to_vec();
+        pile.extend(grade.to_be_bytes());
+        let log = log_of(&[upper, (20_000, 6, 130, 95)]);
+        let answer = plain::calculate(&log, &pile, None, &mut [9; TABLE]);
+        assert_eq!(answer.refusal, 0);
+        five(&answer)
+    }
+
+    #[test]
+    fn numbers_of_the_first_metre() {
+        let clay = (1_001, 6, 140, 95);
+        for (upper, head, grade, numbers) in [
+            (clay, 0, 0, [216_592, 268_605, 408_265, 676_870, 326_612]),
+            (clay, 999, 0, [212_101, 268_605, 399_800, 668_405, 319_840]),
+            (
+                (1_000, 6, 140, 95),
+                999,
+                0,
+                [212_108, 268_605, 399_813, 668_418, 319_850],
+            ),
+            (
+                clay,
+                0,
+                3_200,
+                [220_674, 272_847, 415_960, 688_807, 332_768],
+            ),
+            (
+                clay,
+                0,
+                5_000,
+                [246_292, 311_017, 464_249, 775_266, 371_399],
+            ),
+            (
+                clay,
+                500,
+                -500,
+                [215_467, 268_605, 406_145, 674_750, 324_916],
+            ),
+            (
+                (1_001, 2, 100, 95),
+                0,
+                0,
+                [220_149, 268_605, 414_970, 683_575, 331_976],
+            ),
+        ] {
+            assert_eq!(shallow_numbers(upper, head, grade), numbers);
+        }
     }
 
     #[test]

@@ -229,15 +229,27 @@ fn section(pile: &Pile) -> (Fraction, Fraction) {
 
 fn slice(piece: &Piece, pile: &Pile) -> Slice {
     let middle = Fraction::new((2 * piece.top + piece.thickness) as i128, 2_000);
-    let kilopascals = tables::friction()
-        .at(as_read(middle, pile), friction_index(piece.soil))
-        .expect("no dash in this table");
+    let kilopascals = friction(as_read(middle, pile), friction_index(piece.soil));
     Slice {
         refusal: 0,
         top: piece.top as u16,
         thickness: piece.thickness as u16,
         friction: (kilopascals * Fraction::whole(200_000)).exactly() as u32,
         factor: factor(pile.method, piece.soil.kind()),
+    }
+}
+
+/// Friction in kPa at a depth in m as read. Above 1 m it is that of 1 m, times the depth.
+fn friction(depth: Fraction, index: Fraction) -> Fraction {
+    let printed = |depth| {
+        tables::friction()
+            .at(depth, index)
+            .expect("no dash in this table")
+    };
+    if depth < Fraction::ONE {
+        printed(Fraction::ONE) * depth
+    } else {
+        printed(depth)
     }
 }
 

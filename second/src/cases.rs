@@ -1,9 +1,10 @@
-//! The known cases A to L with their printed numbers, case A on graded sites, and tips in sand.
+//! The known cases A to L with their printed numbers, case A on graded sites, tips in sand, and the first metre.
 
 #![forbid(unsafe_code)]
 
 use crate::{pile_bytes, row_bytes, Pile, Row, Sand, GRADED_PILE, LOG};
 
+mod first_metre;
 mod sands;
 
 /// What a case must give: its five numbers, or a refusal.
@@ -50,7 +51,7 @@ pub fn log_of(rows: &[Row]) -> [u8; LOG] {
     log
 }
 
-fn clay(thickness: u16, hundredths: u8, saturation: u8) -> Row {
+const fn clay(thickness: u16, hundredths: u8, saturation: u8) -> Row {
     Row {
         thickness,
         kind: 6,
@@ -60,7 +61,7 @@ fn clay(thickness: u16, hundredths: u8, saturation: u8) -> Row {
     }
 }
 
-fn fine_sand(thickness: u16) -> Row {
+const fn fine_sand(thickness: u16) -> Row {
     Row {
         thickness,
         kind: 2,
@@ -140,7 +141,14 @@ impl Case {
 
 pub fn all() -> Vec<Case> {
     let printed = [a_to_d(), e_to_g(), h_to_j(), k_and_l()];
-    [printed.concat(), fills(), cuts(), sands::all()].concat()
+    [
+        printed.concat(),
+        fills(),
+        cuts(),
+        sands::all(),
+        first_metre::all(),
+    ]
+    .concat()
 }
 
 /// Clay alone: in one row and in many, softer, drier.

@@ -7,6 +7,7 @@ mod compare {
     pub mod choose;
     pub mod dice;
     pub mod disturb;
+    pub mod first_metre;
     pub mod grades;
     pub mod known;
     pub mod lending;
@@ -17,17 +18,19 @@ mod compare {
     pub mod sand_marks;
     pub mod sands;
     pub mod seeded;
+    pub mod shallow;
+    pub mod sorts;
 }
 
 use compare::meter::Meter;
-use compare::{known, logs, records, sand_marks, seeded};
+use compare::{first_metre, known, logs, records, sand_marks, seeded};
 use second::record;
 use std::process::ExitCode;
 
 const USAGE: &str =
     "usage: compare [--seed N] [--quick] [--only edits|others] [--null-row] [--trace] [--record FILE]
   --seed N    another seed for the random cases
-  --quick     a tenth of the random cases
+  --quick     a tenth of the random cases, a seventh of the first metre
   --only W    the runs of edits alone, or all others: two halves that can run side by side
   --null-row  also edits that hand over a null pointer where no row is used
   --trace     prints every call to standard error before it is made
@@ -121,6 +124,7 @@ fn run(asked: &Asked) -> bool {
         known::graded_marks(&mut meter);
         known::known_cases(&mut meter);
         known::fullest(&mut meter);
+        first_metre::middles(&mut meter, if asked.quick { 7 } else { 1 });
         sand_marks::cells(&mut meter);
         sand_marks::around(&mut meter);
         sand_marks::limits(&mut meter);

@@ -6,6 +6,7 @@ use crate::cases::{self, log_of, Known};
 use crate::*;
 
 mod edits;
+mod first_metre;
 mod grades;
 mod sands;
 

@@ -59,7 +59,7 @@ pub const FACTORS: [[u8; 8]; 4] = [
     [0, 8, 8, 8, 8, 8, 7, 0],
 ];
 
-/// Friction in 1/200 Pa at a depth in half millimetres.
+/// Friction in 1/200 Pa at a depth in half millimetres; above 1 m it is in proportion to the depth.
 #[inline]
 pub fn friction(middle: u32, column: usize, tenth: u32) -> u32 {
     let across = |row: usize| {
@@ -67,7 +67,7 @@ pub fn friction(middle: u32, column: usize, tenth: u32) -> u32 {
         u32::from(cells[column]) * (10 - tenth) + u32::from(cells[column + 1]) * tenth
     };
     if middle <= 2_000 {
-        return across(0) * 20_000;
+        return across(0) * 10 * middle;
     }
     if middle >= 70_000 {
         return across(12) * 20_000;

@@ -14,21 +14,20 @@ use Rattle.rules.specs.declared.Slice.{Slice}
 use Rattle.rules.specs.Bounds.{frictionBound, factorBound, weightBound}
 use Rattle.rules.specs.Base.{pick}
 use Rattle.rules.specs.Pieces.{piece, cutFrom}
-use Rattle.rules.specs.Tables.{frictionAt}
 use Rattle.rules.specs.Grades.{raising, lowering}
 use Rattle.rules.specs.Numbers.{hundredths, midOf, factor, sliceOf, sliceEach, frictionSum}
 use Rattle.rules.proofs.Basics.{split}
 use Rattle.norm_columns.specs.declared.Column.{Column}
 use Rattle.norm_columns.specs.Across.{Across}
 use Rattle.norm_grades.specs.declared.Shift.{Shift}
-use Rattle.norm_friction.specs.Columns.{columnSpot}
+use Rattle.norm_friction.specs.Columns.{columnFriction}
 use Rattle.norm_friction.proofs.Reading.{soil-column}
 use Rattle.record_slice_table.specs.Table.{putAt, putAll}
 use Rattle.ground_cuts.specs.Cuts.{slicesIn, thickHere, weightOf, sliceBy, Shifted, Read}
 use Rattle.ground_cuts.specs.declared.Cut.{Cut}
 
 pub read-is : (column : Column) (shift : Shift) (a b t f k : ℕ) → a < b → b < 2 ^ 16 → Shifted shift a → t ≡ thickHere a b
-    → (f ≡ frictionAt (columnSpot column (a + shift .raising - shift .lowering + (a + shift .raising - shift .lowering) + t))) × (f ≤ frictionBound)
+    → (f ≡ columnFriction column (a + shift .raising - shift .lowering + (a + shift .raising - shift .lowering) + t)) × (f ≤ frictionBound)
     → k ≤ factorBound → Read column k shift a b (record { top = a; thickness = t; friction = f; factor = k })
 read-is column shift a b t f k h l s e ef lk = record {
   is =

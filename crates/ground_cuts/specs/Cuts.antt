@@ -10,11 +10,10 @@ use Rattle.rules.specs.Records.{sliceWidths, sliceFields}
 use Rattle.rules.specs.Limits.{sliceThickness}
 use Rattle.rules.specs.Bounds.{weightBound}
 use Rattle.rules.specs.Pieces.{cutFrom}
-use Rattle.rules.specs.Tables.{frictionAt}
 use Rattle.rules.specs.Numbers.{sliceEach}
 use Rattle.norm_columns.specs.declared.Column.{Column}
 use Rattle.norm_grades.specs.declared.Shift.{Shift}
-use Rattle.norm_friction.specs.Columns.{columnSpot}
+use Rattle.norm_friction.specs.Columns.{columnFriction}
 
 -- the slices from depth a to b, where all of it is soil s
 abbrev pub slicesIn : Pile → Soil → ℕ → ℕ → List Slice
@@ -30,7 +29,7 @@ weightOf c = c .friction * c .thickness * c .factor
 
 -- the slice of t millimetres that begins at depth a, by its soil's column and factor, read with this shift
 abbrev pub sliceBy : Column → ℕ → Shift → ℕ → ℕ → Slice
-sliceBy column factor shift a t = record { top = a; thickness = t; friction = frictionAt (columnSpot column (a + a + t + shift .raising * 2 - shift .lowering * 2)); factor = factor }
+sliceBy column factor shift a t = record { top = a; thickness = t; friction = columnFriction column (a + a + t + shift .raising * 2 - shift .lowering * 2); factor = factor }
 
 -- a shift that a reading from depth a on can be moved by
 pub record Shifted (shift : Shift) (a : ℕ) : Type 0 where

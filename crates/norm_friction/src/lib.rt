@@ -9,9 +9,9 @@ ghost use Prim.Native.Nat.{_+_, _*_, _-_, _<_, _≤_};
 ghost use lib.ListN.{getD};
 ghost use Rattle.rules.specs.Bounds.{cellBound, frictionBound};
 ghost use Rattle.rules.specs.Numbers as numbers;
-ghost use Rattle.rules.specs.Tables.{frictionRows, frictionAt};
+ghost use Rattle.rules.specs.Tables.{frictionRows};
 ghost use Rattle.norm_columns.specs.Across.{Across};
-ghost use Rattle.norm_friction.specs.Columns.{FrictionColumn, columnSpot};
+ghost use Rattle.norm_friction.specs.Columns.{FrictionColumn, columnFriction};
 
 // A row for each depth: kPa in columns 0.2 to 1.0.
 const ROWS: [[u8; 9]; 13] = [
@@ -67,12 +67,13 @@ pub fn column_of(soil: Soil) -> Column
 // In 1/200 Pa, in a column and at a mid-depth in half millimetres.
 pub fn friction(rows: &[[u8; 9]; 13], column: Column, mid: u64) -> u64
     requires { ⌜ (now rows ≡ frictionRows) × FrictionColumn column ⌝ }
-    ensures { λ r. ⌜ (r ≡ frictionAt (columnSpot column mid)) × (r ≤ frictionBound) ⌝ }
+    ensures { λ r. ⌜ (r ≡ columnFriction column mid) × (r ≤ frictionBound) ⌝ }
 {
     let stands = norm_friction_rows::friction_row(mid);
     let i = stands.row;
     let part = stands.part;
+    let whole = stands.whole;
     let upper = along(&rows[i], column.number, column.across);
     let lower = along(&rows[i + 1], column.number, column.across);
-    mean(20000, part, upper, lower)
+    mean(whole, part, upper, lower)
 }

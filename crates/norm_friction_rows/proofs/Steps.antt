@@ -7,7 +7,7 @@ use native.Mathlib.Omega.{arith}
 use lib.Dec.{T, eqb, eqb→eq, ltb}
 use lib.ListN.{getD}
 use Rattle.rules.specs.Base.{both, either}
-use Rattle.rules.specs.Tables.{frictionDepths, rowFor, spotOf}
+use Rattle.rules.specs.Tables.{frictionDepths, metre, rowFor, spotOf}
 use Rattle.rules.proofs.TableLaws.{every, both-left, both-right}
 use Rattle.norm_spots.specs.Spots.{Deepens, InTable}
 use Rattle.norm_spots.proofs.Rows.{from, deepens, by-metre, in-table}
@@ -40,11 +40,15 @@ row-is i above below k t =
 abbrev evenly : ℕ → ℕ → ℕ → Bool
 evenly s more k = rowIs (k / s + more - 1) (k / s * s) (k / s * s + s) k
 
+-- from 1 m on
+all-counts : (mid : ℕ) → 2000 ≤ mid → 20000 ≡ min mid metre * 10
+all-counts mid l = omega arith
+
 -- a row, its depth and that of the next, and a share that makes 20,000 of the way between them
 stands : (mid above below share : ℕ) (r : Standing) → 2000 ≤ mid → mid < 70000 → AtMetre (r .row) above below (mid / 2000)
-    → share * ((below - above) * 2000) ≡ 20000 → r .part ≡ (mid - above * 2000) * share → Stands mid r
+    → share * ((below - above) * 2000) ≡ 20000 → r .part ≡ (mid - above * 2000) * share → r .whole ≡ 20000 → Stands mid r
 unfolding spotOf
-stands mid above below share r l h t e f =
+stands mid above below share r l h t e f all =
     let c : max 2000 (min mid 70000) ≡ mid = omega arith in
     let i : rowFor frictionDepths 2000 11 0 mid ≡ r .row = by-metre frictionDepths 2000 11 0 mid (omega arith) ∙ t .is in
     let row : r .row ≡ spotAt mid .row = rw c (sym i) in
@@ -56,16 +60,17 @@ stands mid above below share r l h t e f =
     record {
       row = row;
       part = ap (λ (x : ℕ). x * spotAt mid .span) d ∙ mul-assoc (spotAt mid .down) share (spotAt mid .span) ∙ ap (λ (x : ℕ). spotAt mid .down * x) s;
+      whole = all ∙ all-counts mid l;
       last = omega (arith, row, w .row);
-      whole = omega (arith, d, mul-le-mul-left share (w .weights .down), mul-comm (spotAt mid .down) share, s);
+      within = omega (arith, d, mul-le-mul-left share (w .weights .down), mul-comm (spotAt mid .down) share, s, all);
     }
 
 -- A stretch of the rule, whatever numbers it has: from depth low to depth high rows stand w half millimetres apart. The test is
 -- at every metre that they touch.
-pub stretch : (low high w more share mid : ℕ) (r : Standing) → low ≤ mid → mid < high → r .part ≡ mid % w * share → r .row ≡ mid / w + more - 1
+pub stretch : (low high w more share mid : ℕ) (r : Standing) → low ≤ mid → mid < high → r .part ≡ mid % w * share → r .whole ≡ 20000 → r .row ≡ mid / w + more - 1
     → T (every ((high + 1999) / 2000) (λ k. either (ltb k (low / 2000)) (evenly (w / 2000) more k)))
     → 2000 ≤ low → high ≤ 70000 → 2000 * (w / 2000) ≡ w → share * w ≡ 20000 → Stands mid r
-stretch low high w more share mid r l h e f t first last even whole =
+stretch low high w more share mid r l h e all f t first last even whole =
     let k : ℕ = mid / 2000 in
     let s : ℕ = w / 2000 in
     let steps : mid / w ≡ k / s = ap (λ (x : ℕ). mid / x) (sym even) ∙ sym (div-div-eq-div-mul mid 2000 s) in
@@ -75,14 +80,14 @@ stretch low high w more share mid r l h e f t first last even whole =
     let down : mid / w * w ≡ k / s * s * 2000 = ap (λ (x : ℕ). x * w) steps ∙ ap (λ (x : ℕ). k / s * x) apart-is ∙ sym (mul-assoc (k / s) s 2000) in
     let left : mid % w ≡ mid - k / s * s * 2000 = mod-eq-sub-div-mul mid w ∙ ap (λ (x : ℕ). mid - x) down in
     let i : r .row ≡ k / s + more - 1 = f ∙ ap (λ (x : ℕ). x + more - 1) steps in
-    let all : share * (s * 2000) ≡ 20000 = ap (λ (x : ℕ). share * x) (sym apart-is) ∙ whole in
-    stands mid (k / s * s) (k / s * s + s) share r (omega arith) (omega arith) (rw i (row-is _ _ _ k u)) (rw apart all) (e ∙ ap (λ (x : ℕ). x * share) left)
+    let parts : share * (s * 2000) ≡ 20000 = ap (λ (x : ℕ). share * x) (sym apart-is) ∙ whole in
+    stands mid (k / s * s) (k / s * s + s) share r (omega arith) (omega arith) (rw i (row-is _ _ _ k u)) (rw apart parts) (e ∙ ap (λ (x : ℕ). x * share) left) all
 
 -- above the first row and below the last
-pub above-all : (mid : ℕ) → mid < 2000 → Stands mid (record { row = 0; part = 0 })
+pub above-all : (mid : ℕ) → mid < 2000 → Stands mid (record { row = 0; part = 0; whole = mid * 10 })
 unfolding spotOf rowFor
-above-all mid h = let e : max 2000 (min mid 70000) ≡ 2000 = omega arith in record { row = rw e refl; part = rw e refl; last = omega arith; whole = omega arith }
+above-all mid h = let e : max 2000 (min mid 70000) ≡ 2000 = omega arith in record { row = rw e refl; part = rw e refl; whole = omega arith; last = omega arith; within = omega arith }
 
-pub below-all : (mid : ℕ) → 70000 ≤ mid → Stands mid (record { row = 11; part = 20000 })
+pub below-all : (mid : ℕ) → 70000 ≤ mid → Stands mid (record { row = 11; part = 20000; whole = 20000 })
 unfolding spotOf rowFor
-below-all mid h = let e : max 2000 (min mid 70000) ≡ 70000 = omega arith in record { row = rw e refl; part = rw e refl; last = omega arith; whole = omega arith }
+below-all mid h = let e : max 2000 (min mid 70000) ≡ 70000 = omega arith in record { row = rw e refl; part = rw e refl; whole = omega arith; last = omega arith; within = omega arith }

@@ -20,10 +20,10 @@ use Rattle.rules.specs.Records.{plainSize, gradedSize, sliceWidths, sliceFields
 use Rattle.rules.specs.Limits.{rowLimit, placesFor, placeLimit, limitOf, logSize, tableSize, tipLimit, freeGrade}
 use Rattle.rules.specs.Grades.{cutDepth, fillHeight, withGrade}
 use Rattle.rules.specs.Packed.{rowsOf, pileOf, sliceBytes, slicesBytes, tableBytes}
-use Rattle.rules.specs.Ranges.{LogInRange, PileInRange, TakesGrade, Sound}
+use Rattle.rules.specs.Ranges.{LogInRange, PileInRange, TakesGrade, ReadFromOneMetre, Sound}
 use Rattle.rules.specs.Ground.{depthOf, soilAt, Agree}
 use Rattle.rules.specs.Pieces.{strata, topOf, cutParts, pieces, runTop}
-use Rattle.rules.specs.Tables.{frictionWeighed}
+use Rattle.rules.specs.Tables.{frictionWeighed, metre}
 use Rattle.rules.specs.SandTips.{sandCap}
 use Rattle.rules.specs.Numbers.{sand, belowTip, friction, frictionSpot, shaftSlices, thicknessSum, lineOf, tipOf, resistance, capacityOf}
 use Rattle.rules.specs.Edits.{Edit, asked, editedLog}
@@ -42,6 +42,7 @@ use Rattle.rules.proofs.ListedLaws as ListedLaws
 use Rattle.rules.proofs.SoundLaws as SoundLaws
 use Rattle.rules.proofs.FitLaws as FitLaws
 use Rattle.rules.proofs.TableLaws as TableLaws
+use Rattle.rules.proofs.FirstMetreLaws as FirstMetreLaws
 use Rattle.rules.proofs.Known as Known
 use Rattle.rules.proofs.KnownEdits as KnownEdits
 use Rattle.rules.proofs.StratumLaws as StratumLaws
@@ -161,9 +162,9 @@ slices-add-up log pile extra table h =
     let g = first-off (lentChecks log pile table) _ (rw (OrderLaws.two-groups log pile extra table) at h) in
     rw (g .1) (FitLaws.slices-add-up (soilAt (rowsOf log)) (pileOf pile))
 
--- "Friction is kept in units of 1/200 Pa, in which it is always whole.": the division leaves no remainder
-pub friction-whole : (s : Soil) (mid : ℕ) → friction s mid * frictionSpot s mid .span ≡ frictionWeighed (frictionSpot s mid) * 20000
-friction-whole s mid = TableLaws.friction-whole s mid
+-- "Friction is kept in units of 1/200 Pa, in which it is always whole.": from 1 m on the division leaves no remainder; above 1 m see request (v)
+pub friction-whole : (s : Soil) (mid : ℕ) → metre ≤ mid → friction s mid * frictionSpot s mid .span ≡ frictionWeighed (frictionSpot s mid) * 20000
+friction-whole s mid h = TableLaws.friction-whole s mid h
 
 -- "how many leading slices of the new table already had the same seven bytes at the same place in the lent table": of the two tables alone
 pub kept-is : (e : Edit) (log pile : List ℕ) (extra : SandRecord) (table : List ℕ) → Accepted e log pile table → editReply e log pile extra table .kept ≡ keptOf (editTable e log pile extra table) table
@@ -287,3 +288,12 @@ sand-below-cap p extra s h = SandLaws.below-cap p extra s h
 -- "A sand tip's capacity takes × 1": whatever its saturation
 pub sand-takes-all : (s : Soil) (n : ℕ) → sand s ≡ true → capacityOf s n ≡ n
 sand-takes-all s n h = SandLaws.takes-all s n h
+
+-- Request (v) of 02. "A mid-depth, as read, above 1 m now takes the 1 m value times the mid-depth in metres. It is still whole in 1/200 Pa.": no remainder
+-- is dropped, and at 1 m both rules agree
+pub first-metre-whole : (s : Soil) (mid : ℕ) → mid ≤ metre → friction s mid * metre ≡ friction s metre * mid
+first-metre-whole s mid h = FirstMetreLaws.first-metre-whole s mid h
+
+-- Where a cut of 1 m or more leaves the head in the ground (7), no slice of the shaft is read above 1 m, so the request changes nothing there
+pub no-first-metre-in-a-cut : (g : ℕ → Soil) (p : Pile) → 1000 ≤ cutDepth (p .grade) → cutDepth (p .grade) ≤ p .head → ReadFromOneMetre p (shaftSlices g p)
+no-first-metre-in-a-cut g p c h = FirstMetreLaws.cut-read p c h g

@@ -23,6 +23,7 @@ pub mod RoomLaws
 pub mod RowLaws
 pub mod SeatLaws
 pub mod StratumLaws
+pub mod FirstMetreLaws
 pub mod TableLaws
 pub mod AnswerLaws
 pub mod EditLaws

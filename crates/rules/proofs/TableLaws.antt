@@ -11,9 +11,10 @@ use borrow.Author.Tests.{lt-ltb, le-ltb}
 use Rattle.rules.specs.declared.Soil.{Soil}
 use Rattle.rules.specs.declared.Spot.{Spot}
 use Rattle.rules.specs.Base.{both, either}
-use Rattle.rules.specs.Tables.{frictionDepths, rowFor, spotOf, frictionWeighed, frictionAt}
-use Rattle.rules.specs.Numbers.{friction, frictionSpot}
+use Rattle.rules.specs.Tables.{frictionDepths, rowFor, spotOf, frictionWeighed, frictionAt, metre}
+use Rattle.rules.specs.Numbers.{frictionSpot, tableFriction, friction}
 use Rattle.rules.proofs.Basics.{split}
+use Rattle.rules.proofs.FirstMetreLaws.{from-metre}
 
 -- a test at every number below n
 abbrev pub every : ℕ → (ℕ → Bool) → Bool
@@ -72,6 +73,6 @@ column-whole mid p e =
     let t = at 12 (λ k. either (eqb (apart k) 2000) (either (eqb (apart k) 4000) (eqb (apart k) 10000))) tt i (omega (arith, row-le frictionDepths 2000 11 0 (max 2000 (min mid 70000)))) in
     divides (p .span) (frictionWeighed p) (rw e t)
 
-pub friction-whole : (s : Soil) (mid : ℕ) → friction s mid * frictionSpot s mid .span ≡ frictionWeighed (frictionSpot s mid) * 20000
+pub friction-whole : (s : Soil) (mid : ℕ) → metre ≤ mid → friction s mid * frictionSpot s mid .span ≡ frictionWeighed (frictionSpot s mid) * 20000
 unfolding friction spotOf
-friction-whole s mid = column-whole mid (frictionSpot s mid) refl
+friction-whole s mid h = rw (from-metre (tableFriction s) mid h) (column-whole mid (frictionSpot s mid) refl)

@@ -167,6 +167,22 @@ sheetA =
 abbrev pub barsA : List (List ℕ)
 barsA = (1000 ∷ 2000 ∷ 6000000 ∷ 6 ∷ []) ∷ (3000 ∷ 2000 ∷ 7600000 ∷ 6 ∷ []) ∷ (5000 ∷ 2000 ∷ 8400000 ∷ 6 ∷ []) ∷ (7000 ∷ 2000 ∷ 8800000 ∷ 6 ∷ []) ∷ (9000 ∷ 1000 ∷ 9100000 ∷ 6 ∷ []) ∷ []
 
+-- A's pile with its head at this depth
+abbrev pub headAt : ℕ → Pile
+headAt h = record { section = 1; a = 600; b = 0; method = 1; head = h; tip = 10000; zero = 0; grade = 0 }
+
+-- E's rectangle from the ground, by method 3
+abbrev pub wideFromGround : Pile
+wideFromGround = record { section = 2; a = 800; b = 400; method = 3; head = 0; tip = 10000; zero = 0; grade = 0 }
+
+-- rows over A's clay
+abbrev pub overA : List Row → List Row
+overA rs = rs ++ clay 20000 130
+
+-- A's slices where its clay begins at 1,001
+abbrev pub lowerBars : List (List ℕ)
+lowerBars = (1001 ∷ 2000 ∷ 6001000 ∷ 6 ∷ []) ∷ (3001 ∷ 2000 ∷ 7600400 ∷ 6 ∷ []) ∷ (5001 ∷ 2000 ∷ 8400200 ∷ 6 ∷ []) ∷ (7001 ∷ 2000 ∷ 8800200 ∷ 6 ∷ []) ∷ (9001 ∷ 999 ∷ 9100100 ∷ 6 ∷ []) ∷ []
+
 abbrev pub cases : List Case
 cases =
     -- A: one clay row, 20,000 mm, index 0.30, saturation 95; circle 600, method 1, head 1,000, tip 10,000
@@ -275,4 +291,32 @@ cases =
     caseWith (sandRecord 0 0 0) (sandOf 30000 1) (circleOf 600 10000) (refusedBy 17) ∷
     -- "ignored over clay"
     caseWith (sandRecord 0 0 0) (clay 20000 130) pileA (five 212100 268605 399798 668403 319838) ∷
+    -- 02 (v), the first metre; slices and numbers from the second program. "A mid-depth, as read, above 1 m now takes the 1 m value times the mid-depth
+    -- in metres. It is still whole in 1/200 Pa.": clay, index 0.40, slice 0 to 1,001; index 0.37
+    case (overA (clay 1001 140)) (headAt 0) (bars ((0 ∷ 1001 ∷ 1501500 ∷ 6 ∷ []) ∷ lowerBars)) ∷
+    case (overA (clay 1001 140)) (headAt 0) (five 216592 268605 408265 676870 326612) ∷
+    case (overA (clay 1001 137)) (headAt 0) (bars ((0 ∷ 1001 ∷ 1741740 ∷ 6 ∷ []) ∷ lowerBars)) ∷
+    case (overA (clay 1001 137)) (headAt 0) (five 217314 268605 409626 678231 327700) ∷
+    -- half a millimetre above 1 m, and just at 1 m by a thin slice and by a thick one
+    case (overA (clay 1000 140)) (headAt 999) (bars ((999 ∷ 1 ∷ 2998500 ∷ 6 ∷ []) ∷ barsA)) ∷
+    case (overA (clay 1000 140)) (headAt 999) (five 212108 268605 399813 668418 319850) ∷
+    case (overA (clay 1001 140)) (headAt 999) (bars ((999 ∷ 2 ∷ 3000000 ∷ 6 ∷ []) ∷ lowerBars)) ∷
+    case (overA (clay 1001 140)) (headAt 999) (five 212101 268605 399800 668405 319840) ∷
+    case (overA (clay 2000 140)) (headAt 0) (five 213600 268605 402626 671231 322100) ∷
+    -- a millimetre at the ground; the slice below it begins in the first metre and is read below it
+    case (overA (clay 1 137)) (headAt 0) (bars ((0 ∷ 1 ∷ 1740 ∷ 6 ∷ []) ∷ (1 ∷ 2000 ∷ 4601400 ∷ 6 ∷ []) ∷ (2001 ∷ 2000 ∷ 7000600 ∷ 6 ∷ []) ∷ (4001 ∷ 2000 ∷ 8000400 ∷ 6 ∷ []) ∷ (6001 ∷ 2000 ∷ 8600200 ∷ 6 ∷ []) ∷ (8001 ∷ 1999 ∷ 9000100 ∷ 6 ∷ []) ∷ [])) ∷
+    case (overA (clay 1 137)) (headAt 0) (five 223189 268605 420700 689305 336560) ∷
+    -- fine sand; four strata of the other kinds, in a rectangle by method 3; and a tip in sand
+    case (overA (fineSand 1001 ∷ [])) (headAt 0) (five 220149 268605 414970 683575 331976) ∷
+    case (overA (row 150 1 100 95 ∷ row 201 5 155 95 ∷ row 250 3 100 95 ∷ row 399 4 90 95 ∷ [])) wideFromGround (bars ((0 ∷ 150 ∷ 525000 ∷ 8 ∷ []) ∷ (150 ∷ 201 ∷ 501000 ∷ 8 ∷ []) ∷ (351 ∷ 250 ∷ 1428000 ∷ 8 ∷ []) ∷ (601 ∷ 399 ∷ 5603500 ∷ 8 ∷ []) ∷ (1000 ∷ 2000 ∷ 6000000 ∷ 7 ∷ []) ∷ (3000 ∷ 2000 ∷ 7600000 ∷ 7 ∷ []) ∷ (5000 ∷ 2000 ∷ 8400000 ∷ 7 ∷ []) ∷ (7000 ∷ 2000 ∷ 8800000 ∷ 7 ∷ []) ∷ (9000 ∷ 1000 ∷ 9100000 ∷ 7 ∷ []) ∷ [])) ∷
+    case (overA (row 150 1 100 95 ∷ row 201 5 155 95 ∷ row 250 3 100 95 ∷ row 399 4 90 95 ∷ [])) wideFromGround (five 258538 304000 620491 924491 496392) ∷
+    caseWith (sandRecord 3000 10000 18000) (sandOf 1001 3 ++ sandOf 30000 1) (headAt 0) (five 351208 220598 662010 882608 529608) ∷
+    -- "as read": a fill of 3,000 moves nothing, one of 3,200 every reading by 200, one of 5,000 takes the slice out of the first metre; no cut up to
+    -- 3,000 moves a reading
+    case (overA (clay 1001 140)) (withGrade (filled 3000) (headAt 0)) (five 216592 268605 408265 676870 326612) ∷
+    case (overA (clay 1001 140)) (withGrade (filled 3200) (headAt 0)) (bars ((0 ∷ 1001 ∷ 2101500 ∷ 6 ∷ []) ∷ (1001 ∷ 2000 ∷ 6201000 ∷ 6 ∷ []) ∷ (3001 ∷ 2000 ∷ 7680400 ∷ 6 ∷ []) ∷ (5001 ∷ 2000 ∷ 8440200 ∷ 6 ∷ []) ∷ (7001 ∷ 2000 ∷ 8840200 ∷ 6 ∷ []) ∷ (9001 ∷ 999 ∷ 9140100 ∷ 6 ∷ []) ∷ [])) ∷
+    case (overA (clay 1001 140)) (withGrade (filled 3200) (headAt 0)) (five 220674 272847 415960 688807 332768) ∷
+    case (overA (clay 1001 140)) (withGrade (filled 5000) (headAt 0)) (five 246292 311017 464249 775266 371399) ∷
+    case (overA (clay 1001 140)) (inCut 500 500 10000) (bars ((500 ∷ 501 ∷ 2251500 ∷ 6 ∷ []) ∷ lowerBars)) ∷
+    case (overA (clay 1001 140)) (inCut 500 500 10000) (five 215467 268605 406145 674750 324916) ∷
     []

@@ -14,7 +14,7 @@ use Rattle.rules.specs.declared.TipRead.the-variants.{Dashed, Pascals}
 use Rattle.rules.specs.Base.{pick, both, neg}
 use Rattle.rules.specs.Grades.{cutDepth, asRead}
 use Rattle.rules.specs.Pieces.{Piece, pieces}
-use Rattle.rules.specs.Tables.{spotIn, frictionDepths, frictionRows, tipDepths, tipRows, frictionAt, tipAt, dashAt}
+use Rattle.rules.specs.Tables.{spotIn, frictionDepths, frictionRows, tipDepths, tipRows, frictionAt, metre, withFirstMetre, tipAt, dashAt}
 use Rattle.rules.specs.SandTips.{sandResistance}
 
 -- kinds 1 to 3
@@ -40,11 +40,15 @@ abbrev pub tipFromCut : Pile → ℕ
 tipFromCut p = p .tip - cutDepth (p .grade)
 
 abbrev pub frictionSpot : Soil → ℕ → Spot
-frictionSpot s mid = spotIn frictionDepths frictionRows 2000 mid (hundredths s)
+frictionSpot s mid = spotIn frictionDepths frictionRows metre mid (hundredths s)
 
--- in 1/200 Pa, at a mid-depth in half millimetres
+-- what table 7.3 reads, in 1/200 Pa, at a mid-depth as read, in half millimetres
+abbrev pub tableFriction : Soil → ℕ → ℕ
+tableFriction s mid = frictionAt (frictionSpot s mid)
+
+-- that, and in the first metre by 02 (v)
 unfoldable pub friction : Soil → ℕ → ℕ
-friction s mid = frictionAt (frictionSpot s mid)
+friction s mid = withFirstMetre (tableFriction s) mid
 
 -- "method 1, dry or cased: sand, sandy loam, loam 7, clay 6. Method 2, under water or slurry: all 6.
 -- Method 3, stiff mix vibrated at depth, dry: sand, sandy loam, loam 8, clay 7."; in tenths

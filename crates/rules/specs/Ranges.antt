@@ -20,8 +20,9 @@ use Rattle.rules.specs.Limits.{rowLimit, thicknessLimit, tipLimit}
 use Rattle.rules.specs.Grades.{cutDepth}
 use Rattle.rules.specs.Packed.{noRow}
 use Rattle.rules.specs.Pieces.{runTop}
+use Rattle.rules.specs.Tables.{metre}
 use Rattle.rules.specs.SandTips.{reduced}
-use Rattle.rules.specs.Numbers.{belowTip, tipOf, tipFromCut, tipRead, isDash}
+use Rattle.rules.specs.Numbers.{belowTip, midOf, tipOf, tipFromCut, tipRead, isDash}
 use Rattle.rules.specs.Checks.{seatOf}
 
 -- from low to high
@@ -73,6 +74,11 @@ TakesGrade n p = (n ≡ gradedSize) ⊎ ((n ≡ plainSize) × (p .grade ≡ 0))
 abbrev pub SlicesFit : List Slice → Type 0
 SlicesFit [] = Unit {0}
 SlicesFit (c ∷ cs) = (0 < c .thickness) × Fits sliceWidths (sliceFields c) × SlicesFit cs
+
+-- slices of which none has a mid-depth, as read, above 1 m
+abbrev pub ReadFromOneMetre : Pile → List Slice → Type 0
+ReadFromOneMetre p [] = Unit {0}
+ReadFromOneMetre p (c ∷ cs) = (metre ≤ midOf p (c .top) (c .thickness)) × ReadFromOneMetre p cs
 
 -- a tip in clay: what 11 and 12 ask of kinds 4 to 6
 pub record SoundClay (s : Soil) (p : Pile) : Type 0 where

@@ -55,6 +55,7 @@ rowFor ds unit (suc n) i d = let on = rowFor ds unit n (i + 1) d in pick (ltb d 
 
 -- Where depth d stands, in parts of which a metre has unit, and q hundredths right of the first column, in a table of
 -- m + 2 rows and c + 2 columns of ten hundredths. "above 1 m depth the 1 m row, below 35 m the 35 m row"; right of the last column, that column.
+-- Above 1 m `withFirstMetre` makes friction of that row.
 unfoldable pub spotOf : List ℕ → ℕ → ℕ → ℕ → ℕ → ℕ → Spot
 spotOf ds unit m c d q =
     let clamped = max (getD ds 0 0 * unit) (min d (getD ds (m + 1) 0 * unit)) in
@@ -96,6 +97,15 @@ frictionWeighed p =
 -- "Friction is kept in units of 1/200 Pa, in which it is always whole.": a kPa has 200,000 of them
 unfoldable pub frictionAt : Spot → ℕ
 frictionAt p = frictionWeighed p * 20000 / p .span
+
+-- 1 m in half millimetres, in which mid-depths count
+abbrev pub metre : ℕ
+metre = 2000
+
+-- 02 (v): "A mid-depth, as read, above 1 m now takes the 1 m value times the mid-depth in metres. It is still whole in 1/200 Pa.": the reading of
+-- table 7.3 at 1 m, of one soil, for a mid-depth of less than 1 m; the division leaves no remainder (FirstMetreLaws: first-metre-whole)
+abbrev pub withFirstMetre : (ℕ → ℕ) → ℕ → ℕ
+withFirstMetre reading mid = pick (ltb mid metre) (reading metre * mid / metre) (reading mid)
 
 abbrev pub kpaOf : Cell → ℕ
 kpaOf Dash = 0

@@ -34,15 +34,15 @@ column-for _ _ _ h g = column (cc) (cc)
 pub mean : Settled norm-columns.mean.Kinds.ps norm-columns.mean.Kinds.r norm-columns.mean.Reads.Pre norm-columns.mean.Reads.Learnt
 mean _ _ _ h g = cc
 
-standing : {r s : Standing} → r .row ≡ s .row → r .part ≡ s .part → r ≡ s
-standing n a = λ i. record { row = n i; part = a i }
+standing : {r s : Standing} → r .row ≡ s .row → r .part ≡ s .part → r .whole ≡ s .whole → r ≡ s
+standing n a w = λ i. record { row = n i; part = a i; whole = w i }
 
 -- two rows of the table are some way apart
 pub friction-row : Settled norm-friction-rows.friction_row.Kinds.ps norm-friction-rows.friction_row.Kinds.r norm-friction-rows.friction_row.Reads.Pre norm-friction-rows.friction_row.Reads.Learnt
 friction-row c _ _ h g =
     let mid = c .args .0 in
     let far = in-table frictionDepths 2000 11 friction-deepens 7 mid 0 .weights .some in
-    standing (h .row ∙ sym (g .row)) (eq-of-mul-eq-mul-right (spotAt mid .span) far _ _ (h .part ∙ sym (g .part)))
+    standing (h .row ∙ sym (g .row)) (eq-of-mul-eq-mul-right (spotAt mid .span) far _ _ (h .part ∙ sym (g .part))) (h .whole ∙ sym (g .whole))
 
 pub tip-spot : Settled norm-tip-rows.tip_spot.Kinds.ps norm-tip-rows.tip_spot.Kinds.r norm-tip-rows.tip_spot.Reads.Pre norm-tip-rows.tip_spot.Reads.Learnt
 tip-spot _ _ _ h g = cc

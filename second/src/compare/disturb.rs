@@ -36,7 +36,7 @@ fn disturb_depths(dice: &mut Dice, pile: &mut Pile, depth: u32, way: u32) {
             pile.tip = ends.min(65_535) as u16;
         }
         3 => pile.head = tip.wrapping_add(dice.below(3) as u16).wrapping_sub(1),
-        _ => pile.head = dice.one_of(&[0, 1, 65_535]),
+        _ => pile.head = dice.one_of(&[0, 1, 999, 1_000, 65_535]),
     }
 }
 

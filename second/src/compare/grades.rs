@@ -4,6 +4,7 @@
 
 use super::dice::Dice;
 use super::meter::Meter;
+use super::sorts;
 use second::{Answer, Pile, GRADED_PILE, PILE};
 
 /// The grades around which the rules change, and those at the ends of 16 bits.
@@ -46,6 +47,24 @@ pub fn grade(dice: &mut Dice, pile: &mut Pile, top: u32) {
     set(pile, grade);
 }
 
+/// Gives a pile with its head in the first metre a record of eight bytes; or one of ten, with a cut or a fill that moves no depth, or with
+/// a fill that moves them, mostly not out of the first metre.
+pub fn shallow_grade(dice: &mut Dice, pile: &mut Pile) {
+    let grade = match dice.below(8) {
+        0..=2 => {
+            pile.length = PILE as u8;
+            pile.grade = 0;
+            return;
+        }
+        3 => dice.between(0, 3_000) as i32,
+        4 => -(dice.between(1, 1_000) as i32),
+        5 => dice.between(3_001, 3_020) as i32,
+        6 => dice.between(3_001, 3_999) as i32,
+        _ => dice.between(3_001, 6_000) as i32,
+    };
+    set(pile, grade.min(highest_fill(pile)));
+}
+
 /// The fill with which a tip is read at 40,000, if its bits hold it.
 fn highest_fill(pile: &Pile) -> i32 {
     43_000 - i32::from(pile.tip)
@@ -64,7 +83,7 @@ fn set(pile: &mut Pile, grade: i32) {
 }
 
 /// By how much a pile's depths are read deeper than they are.
-fn deeper(pile: &Pile) -> i32 {
+pub fn deeper(pile: &Pile) -> i32 {
     let grade = i32::from(pile.grade);
     grade - grade.clamp(-3_000, 3_000)
 }
@@ -150,19 +169,10 @@ impl Grades {
 
     /// Counts a failure for a sort that never came.
     pub fn all(&self, meter: &mut Meter) {
-        for (times, sort) in self.0.into_iter().zip(SORTS) {
-            meter.case(sort.to_string());
-            meter.count(times > 0, || "  was never reached".to_string());
-        }
+        sorts::all(meter, "records", &SORTS, &self.0);
     }
 
     pub fn text(&self) -> String {
-        let list: Vec<String> = self
-            .0
-            .into_iter()
-            .zip(SORTS)
-            .map(|(times, sort)| format!("{sort} {times}"))
-            .collect();
-        format!("records {}", list.join(", "))
+        sorts::text("records", &SORTS, &self.0)
     }
 }

@@ -17,7 +17,7 @@ pub fn lend(site: &Site) -> Lending {
     }
 }
 
-fn row(thickness: u32, kind: u8, index: u8) -> Row {
+pub fn row(thickness: u32, kind: u8, index: u8) -> Row {
     Row {
         thickness: thickness as u16,
         kind,
@@ -28,7 +28,7 @@ fn row(thickness: u32, kind: u8, index: u8) -> Row {
 }
 
 /// A square pile of one metre, whose tip force is its tip resistance.
-fn square(head: u32, tip: u32) -> Pile {
+pub fn square(head: u32, tip: u32) -> Pile {
     Pile {
         section: 2,
         a: 1_000,
@@ -41,7 +41,7 @@ fn square(head: u32, tip: u32) -> Pile {
 }
 
 /// An index such as `0.3` as stored.
-fn stored(word: &str) -> u8 {
+pub fn stored(word: &str) -> u8 {
     let hundredths: u8 = format!("{word}0")
         .replace('.', "")
         .parse()
@@ -224,7 +224,7 @@ fn beyond(grade: i32) -> i32 {
     grade - 3_000 * grade.signum()
 }
 
-fn graded(pile: Pile, grade: i32) -> Pile {
+pub fn graded(pile: Pile, grade: i32) -> Pile {
     Pile {
         length: second::GRADED_PILE as u8,
         grade: grade as i16,
@@ -267,9 +267,9 @@ fn graded_tip(meter: &mut Meter, grade: i32, read: i32) {
     }
 }
 
-/// The cases A to L with their printed numbers, those of graded sites and those of tips in sand.
+/// The cases A to L with their printed numbers, those of graded sites, of tips in sand and of the first metre.
 pub fn known_cases(meter: &mut Meter) {
-    meter.group("cases A to L, A graded, tips in sand");
+    meter.group("cases A to L, A graded, tips in sand, first metre");
     for case in cases::all() {
         meter.case(format!("case {}", case.name));
         let lent = Lending {

@@ -5,6 +5,7 @@
 use super::dice::Dice;
 use super::grades::{below_cut, grade, tip_as_read};
 use super::sands::{any_record, record, slender};
+use super::shallow::shallow;
 use second::cases::log_of;
 use second::{pile_bytes, Carried, Pile, Row, ROWS};
 
@@ -89,7 +90,7 @@ fn tip_soil(dice: &mut Dice, read: u32, sandy: bool) -> Row {
 }
 
 /// A soil that follows another: any, the very same, or the same but for one field.
-fn next_soil(dice: &mut Dice, before: Option<Row>) -> Row {
+pub fn next_soil(dice: &mut Dice, before: Option<Row>) -> Row {
     let fresh = any_soil(dice);
     let before = match before {
         Some(before) => before,
@@ -230,7 +231,11 @@ pub fn good(dice: &mut Dice) -> Site {
     pile.head = head(dice, tip, top);
     below_cut(dice, &mut pile);
     let sand = record(dice, sandy);
-    Site { rows, pile, sand }
+    let mut site = Site { rows, pile, sand };
+    if dice.once_in(6) {
+        shallow(dice, &mut site);
+    }
+    site
 }
 
 /// Whether a site's tip is to stand in sand.

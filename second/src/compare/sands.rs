@@ -7,6 +7,7 @@ use super::dice::Dice;
 use super::grades::tip_as_read;
 use super::lending::Lending;
 use super::meter::Meter;
+use super::sorts;
 use second::{sand, Answer, Carried, Pile};
 
 /// Angles at both sides of what is taken.
@@ -163,7 +164,7 @@ impl Sands {
             return;
         }
         let pile = second::read_pile(&lent.pile);
-        let (kind, saturation) = match below(&lent.log, pile.tip) {
+        let (kind, saturation) = match soil_below(&lent.log, pile.tip) {
             Some(soil) => soil,
             None => return,
         };
@@ -199,25 +200,16 @@ impl Sands {
 
     /// Counts a failure for a sort that never came.
     pub fn all(&self, meter: &mut Meter) {
-        for (times, sort) in self.0.into_iter().zip(SORTS) {
-            meter.case(format!("sand: {sort}"));
-            meter.count(times > 0, || "  was never reached".to_string());
-        }
+        sorts::all(meter, "sand tips", &SORTS, &self.0);
     }
 
     pub fn text(&self) -> String {
-        let list: Vec<String> = self
-            .0
-            .into_iter()
-            .zip(SORTS)
-            .map(|(times, sort)| format!("{sort} {times}"))
-            .collect();
-        format!("sand tips {}", list.join(", "))
+        sorts::text("sand tips", &SORTS, &self.0)
     }
 }
 
 /// Kind and saturation of the millimetre just below a depth, of a log that passed its checks.
-fn below(log: &[u8], depth: u16) -> Option<(u8, u8)> {
+pub fn soil_below(log: &[u8], depth: u16) -> Option<(u8, u8)> {
     let count = usize::from(*log.first()?);
     let mut bottom = 0;
     let row = log[1..].chunks_exact(5).take(count).find(|row| {

@@ -10,6 +10,7 @@ use super::lending::{damage, spot, table, Lending};
 use super::makers::{good, loose, Site};
 use super::meter::{Edit, Meter};
 use super::sands::{any_record, disturb_record, record, Sands};
+use super::shallow::{shallow_rows, Shallow};
 use second::{Answer, Pile, Row, SLICE, TABLE};
 
 /// How often each refusal came.
@@ -86,6 +87,7 @@ pub fn calculations(meter: &mut Meter, seed: u64, cases: u64) {
     let mut seen = Seen([0; 18]);
     let mut grades = Grades::default();
     let mut sands = Sands::default();
+    let mut shallow = Shallow::default();
     let mut fullest = 0;
     for case in 0..cases {
         if meter.enough() {
@@ -97,6 +99,7 @@ pub fn calculations(meter: &mut Meter, seed: u64, cases: u64) {
         seen.add(&answer);
         grades.add(&lent.pile, &answer);
         sands.add(&lent, &answer);
+        shallow.add(&lent, &table, &answer);
         if answer.refusal == 0 {
             fullest = fullest.max(used(&table));
         }
@@ -105,12 +108,18 @@ pub fn calculations(meter: &mut Meter, seed: u64, cases: u64) {
         seen.all(meter, &OF_CALCULATIONS);
         grades.all(meter);
         sands.all(meter);
+        shallow.all(meter, false);
         meter.case("slices".to_string());
         meter.count(fullest == 83, || {
             "  83 slices were never reached".to_string()
         });
     }
-    let texts = [seen.text(), grades.text(), sands.text()];
+    let texts = [
+        seen.text(),
+        grades.text(),
+        sands.text(),
+        shallow.text(false),
+    ];
     meter.note(texts.join("; "));
 }
 
@@ -136,6 +145,7 @@ struct Tally {
     seen: Seen,
     grades: Grades,
     sands: Sands,
+    shallow: Shallow,
     steps: u64,
     /// Accepted edits that kept no slice, some, all.
     kept: [u64; 3],
@@ -158,6 +168,7 @@ impl Tally {
         self.seen.all(meter, &OF_EDITS);
         self.grades.all(meter);
         self.sands.all(meter);
+        self.shallow.all(meter, true);
         meter.case("kept".to_string());
         meter.count(self.kept.iter().all(|times| *times > 0), || {
             "  none, some or all were never kept".to_string()
@@ -167,11 +178,12 @@ impl Tally {
     fn text(&self) -> String {
         let [none, some, every] = self.kept;
         format!(
-            "{} edits; kept none {none}, some {some}, all {every}; {}; {}; {}",
+            "{} edits; kept none {none}, some {some}, all {every}; {}; {}; {}; {}",
             self.steps,
             self.seen.text(),
             self.grades.text(),
-            self.sands.text()
+            self.sands.text(),
+            self.shallow.text(true)
         )
     }
 }
@@ -182,6 +194,7 @@ pub fn edits(meter: &mut Meter, seed: u64, runs: u64) {
         seen: Seen([0; 18]),
         grades: Grades::default(),
         sands: Sands::default(),
+        shallow: Shallow::default(),
         steps: 0,
         kept: [0; 3],
     };
@@ -201,7 +214,7 @@ pub fn edits(meter: &mut Meter, seed: u64, runs: u64) {
 fn run_of_edits(meter: &mut Meter, dice: &mut Dice, run: u64, tally: &mut Tally) {
     let (start, mode) = start(dice);
     let mut lent = lent_to_edit(dice, &start);
-    let dragged = dice.below(start.rows.len() as u32) + 1;
+    let dragged = dragged_row(dice, &start.rows);
     for step in 0..dice.between(3, 9) {
         meter.case(format!("run {run}, edit {step}"));
         if dice.once_in(5) {
@@ -227,6 +240,16 @@ fn run_of_edits(meter: &mut Meter, dice: &mut Dice, run: u64, tally: &mut Tally)
     }
 }
 
+/// The number of a row whose lower boundary is dragged, often one that begins in the first metre.
+fn dragged_row(dice: &mut Dice, rows: &[Row]) -> u32 {
+    let count = if dice.once_in(3) {
+        shallow_rows(rows)
+    } else {
+        rows.len()
+    };
+    dice.below(count as u32) + 1
+}
+
 /// True if it passed.
 fn one_edit(
     meter: &mut Meter,
@@ -245,6 +268,7 @@ fn one_edit(
         tally.keep(&answer, &lent.table);
         tally.grades.add(&lent.pile, &answer);
         tally.sands.add(lent, &answer);
+        tally.shallow.add(lent, &lent.table, &answer);
         (passed && held(meter, dice, lent, &answer), answer)
     };
     tally.steps += 1;
@@ -315,11 +339,12 @@ fn move_pile(dice: &mut Dice, lent: &mut Lending) {
         lent.pile = good(dice).pile();
         return;
     }
-    match dice.below(7) {
+    match dice.below(8) {
         0 => pile.tip = pile.tip.wrapping_add(dice.below(5) as u16).wrapping_sub(2),
         1 => pile.head = pile.head.wrapping_add(dice.below(5) as u16).wrapping_sub(2),
         2 => pile.method = dice.between(1, 3) as u8,
         3 => pile.tip = dice.between(2_990, 40_010) as u16,
+        4 => pile.head = dice.between(0, 1_000) as u16,
         _ => regrade(dice, &mut pile),
     }
     lent.pile = second::pile_bytes(&pile);

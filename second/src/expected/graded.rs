@@ -18,7 +18,7 @@ pub fn edges(desk: &mut Desk) {
 }
 
 /// A row of a millimetre above others is removed, with a pile.
-fn remove_first(desk: &mut Desk, rows: &[Row], pile: Pile) -> Answer {
+pub fn remove_first(desk: &mut Desk, rows: &[Row], pile: Pile) -> Answer {
     desk.set_log(&[&[row(1, 6, 130, 95)], rows].concat());
     desk.set_pile(pile);
     desk.edit(Edit {

@@ -6,6 +6,7 @@
 mod desk;
 mod edges;
 mod fields;
+mod first_metre;
 mod graded;
 mod held;
 mod norm;
@@ -76,6 +77,8 @@ fn edits() -> Desk {
     graded::runs(&mut desk, &mut twister);
     sands::edges(&mut desk);
     sands::runs(&mut desk, &mut twister);
+    first_metre::edges(&mut desk);
+    first_metre::runs(&mut desk, &mut twister);
     desk
 }
 

@@ -19,10 +19,10 @@ const fn record(angle: u32, weight_below: u32, weight_above: u32) -> Carried {
     }
 }
 
-const GOOD: Carried = record(3_000, 10_000, 18_000);
+pub const GOOD: Carried = record(3_000, 10_000, 18_000);
 /// With which every cap is reached four diameters deep.
 const STRONG: Carried = record(4_333, 30_000, 30_000);
-const NONE: Carried = Carried {
+pub const NONE: Carried = Carried {
     given: 0,
     angle: 0,
     weight_below: 0,

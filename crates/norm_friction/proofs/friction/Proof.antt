@@ -1,6 +1,6 @@
 -- The cells of the row above and the row below, weighed across and then down, are the definition's reading.
 use mathlib.Core.Path.{_∙_}
-use Rattle.norm_friction.proofs.Reading.{in-column, friction-is, column-most}
+use Rattle.norm_friction.proofs.Reading.{friction-is, column-most}
 use borrow.Author.Needs.{needs}
 use Rattle.norm_friction.proofs.friction.Statement.{statement}
 use Rattle.norm_friction.proofs.friction.Tie as tie
@@ -41,7 +41,7 @@ returns c =
     let e =
     c .mean .ensures .0
     ∙ friction-is (a .mid) (a .rows .now) _ (a .column) _ _ (o .pre .0) (stand .friction-row .ensures) (upper .along .ensures .0) (c .before .along2 .ensures .0) in
-    (e, rw e (column-most _ (in-column (a .column) (a .mid) (o .pre .1))))
+    (e, rw e (column-most (a .column) (a .mid) (o .pre .1)))
 
 pub friction-spec : {M : Type 1} → statement M
 friction-spec =

@@ -18,7 +18,7 @@ mul-t8 c = search needs
 
 returns-2 : tie.Need-returns-2
 unfolding rowFor
-returns-2 c = stretch _ _ _ 6 _ _ _ (c .before .if1 .taken) (c .if2 .left) refl (omega arith) tt (omega arith) (omega arith) refl refl
+returns-2 c = stretch _ _ _ 6 _ _ _ (c .before .if1 .taken) (c .if2 .left) refl refl (omega arith) tt (omega arith) (omega arith) refl refl
 
 add-t10 : tie.Need-add-t10
 add-t10 c = search needs
@@ -28,7 +28,7 @@ mul-t13 c = search needs
 
 returns-3 : tie.Need-returns-3
 unfolding rowFor
-returns-3 c = stretch _ _ _ 3 _ _ _ (c .if3 .taken) (c .before .if1 .left) refl (omega arith) tt (omega arith) (omega arith) refl refl
+returns-3 c = stretch _ _ _ 3 _ _ _ (c .if3 .taken) (c .before .if1 .left) refl refl (omega arith) tt (omega arith) (omega arith) refl refl
 
 sub-t15 : tie.Need-sub-t15
 sub-t15 c = search needs
@@ -38,7 +38,10 @@ mul-t18 c = search needs
 
 returns-4 : tie.Need-returns-4
 unfolding rowFor
-returns-4 c = stretch _ _ _ 0 _ _ _ (c .if4 .taken) (c .before .if3 .left) refl (omega arith) tt (omega arith) (omega arith) refl refl
+returns-4 c = stretch _ _ _ 0 _ _ _ (c .if4 .taken) (c .before .if3 .left) refl refl (omega arith) tt (omega arith) (omega arith) refl refl
+
+mul-t19 : tie.Need-mul-t19
+mul-t19 c = search needs
 
 returns-5 : tie.Need-returns-5
 returns-5 c = above-all _ (omega arith)
@@ -57,4 +60,5 @@ friction-row-spec =
     sub-t15
     mul-t18
     returns-4
+    mul-t19
     returns-5)
