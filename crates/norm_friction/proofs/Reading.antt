@@ -48,7 +48,7 @@ along rows i c = (10 - c .across) * getD (getD rows i []) (c .number) 0 + c .acr
 -- a reading in a column at a mid-depth stands in the table
 in-column : (c : Column) (mid : ℕ) → FrictionColumn c → InTable 11 7 (columnSpot c mid)
 in-column c mid h =
-    let t : InTable 11 7 (spotAt mid) = in-table frictionDepths 2000 11 friction-deepens 7 mid 0 in
+    let t : InTable 11 7 (spotAt mid) = in-table frictionDepths metre 11 friction-deepens 7 mid 0 in
     record { row = t .row; column = h .last; weights = record { down = t .weights .down; some = t .weights .some; span = t .weights .span; across = h .tenths } }
 
 -- a spot above 1 m is that of 1 m
@@ -89,7 +89,7 @@ table-is mid rows st c upper lower r t e f h =
     let u : upper ≡ along frictionRows (p .row) c = e ∙ (rw (r, t .row)) in
     let l : lower ≡ along frictionRows (p .row + 1) c = f ∙ (rw (r, t .row)) in
     ap (λ (n : ℕ). (n - st .part) * upper + st .part * lower) all
-    ∙ eq-of-mul-eq-mul-right (p .span) (in-table frictionDepths 2000 11 friction-deepens 7 mid 0 .weights .some) _ _
+    ∙ eq-of-mul-eq-mul-right (p .span) (in-table frictionDepths metre 11 friction-deepens 7 mid 0 .weights .some) _ _
     (shares 20000 (st .part) (p .down) (p .span) upper lower (t .part)
     ∙ ap (λ (x : ℕ). x * 20000) (weighed-is p _ _ _ _ upper lower u l) ∙ sym (column-whole mid p refl))
     ∙ sym (from-metre (columnReading c) mid h)
@@ -114,7 +114,7 @@ pub friction-most : (s : Soil) (mid : ℕ) → friction s mid ≤ frictionBound
 unfolding friction
 friction-most s mid =
     first-metre-most (tableFriction s) mid frictionBound
-    (λ m. spot-most (frictionSpot s m) (in-table frictionDepths 2000 11 friction-deepens 7 m (hundredths s)))
+    (λ m. spot-most (frictionSpot s m) (in-table frictionDepths metre 11 friction-deepens 7 m (hundredths s)))
 
 -- a soil's friction is read in its column
 soil-spot : (s : Soil) (c : Column) (mid : ℕ) → Across 7 (hundredths s) c → columnSpot c mid ≡ frictionSpot s mid

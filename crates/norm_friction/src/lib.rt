@@ -64,7 +64,7 @@ pub fn column_of(soil: Soil) -> Column
     norm_columns::column_for(hundredths(soil), 7)
 }
 
-// In 1/200 Pa, in a column and at a mid-depth in half millimetres.
+// In 1/200 Pa, in a column and at a mid-depth in half millimetres: two rows weighed, above 1 m by as much of a reading as counts.
 pub fn friction(rows: &[[u8; 9]; 13], column: Column, mid: u64) -> u64
     requires { ⌜ (now rows ≡ frictionRows) × FrictionColumn column ⌝ }
     ensures { λ r. ⌜ (r ≡ columnFriction column mid) × (r ≤ frictionBound) ⌝ }

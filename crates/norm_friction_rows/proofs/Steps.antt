@@ -15,8 +15,8 @@ use Rattle.norm_friction_rows.specs.declared.Standing.{Standing}
 use Rattle.norm_friction_rows.specs.Standings.{spotAt, Stands}
 
 -- by half millimetres
-pub friction-deepens : Deepens frictionDepths 2000 11
-friction-deepens = deepens frictionDepths 2000 11 tt tt (omega arith) (omega arith)
+pub friction-deepens : Deepens frictionDepths metre 11
+friction-deepens = deepens frictionDepths metre 11 tt tt (omega arith) (omega arith)
 
 -- metre k stands in row i, which is above metres deep, and the next is below metres deep
 record AtMetre (i above below k : ℕ) : Type 0 where
@@ -41,20 +41,20 @@ abbrev evenly : ℕ → ℕ → ℕ → Bool
 evenly s more k = rowIs (k / s + more - 1) (k / s * s) (k / s * s + s) k
 
 -- from 1 m on
-all-counts : (mid : ℕ) → 2000 ≤ mid → 20000 ≡ min mid metre * 10
+all-counts : (mid : ℕ) → metre ≤ mid → 20000 ≡ min mid metre * 10
 all-counts mid l = omega arith
 
 -- a row, its depth and that of the next, and a share that makes 20,000 of the way between them
-stands : (mid above below share : ℕ) (r : Standing) → 2000 ≤ mid → mid < 70000 → AtMetre (r .row) above below (mid / 2000)
-    → share * ((below - above) * 2000) ≡ 20000 → r .part ≡ (mid - above * 2000) * share → r .whole ≡ 20000 → Stands mid r
+stands : (mid above below share : ℕ) (r : Standing) → metre ≤ mid → mid < 70000 → AtMetre (r .row) above below (mid / metre)
+    → share * ((below - above) * metre) ≡ 20000 → r .part ≡ (mid - above * metre) * share → r .whole ≡ 20000 → Stands mid r
 unfolding spotOf
 stands mid above below share r l h t e f all =
-    let c : max 2000 (min mid 70000) ≡ mid = omega arith in
-    let i : rowFor frictionDepths 2000 11 0 mid ≡ r .row = by-metre frictionDepths 2000 11 0 mid (omega arith) ∙ t .is in
+    let c : max metre (min mid 70000) ≡ mid = omega arith in
+    let i : rowFor frictionDepths metre 11 0 mid ≡ r .row = by-metre frictionDepths metre 11 0 mid (omega arith) ∙ t .is in
     let row : r .row ≡ spotAt mid .row = rw c (sym i) in
-    let down : spotAt mid .down ≡ mid - above * 2000 = rw (c, i, t .depth) in
-    let span : spotAt mid .span ≡ (below - above) * 2000 = rw (c, i, t .depth, t .next) in
-    let w : InTable 11 7 (spotAt mid) = in-table frictionDepths 2000 11 friction-deepens 7 mid 0 in
+    let down : spotAt mid .down ≡ mid - above * metre = rw (c, i, t .depth) in
+    let span : spotAt mid .span ≡ (below - above) * metre = rw (c, i, t .depth, t .next) in
+    let w : InTable 11 7 (spotAt mid) = in-table frictionDepths metre 11 friction-deepens 7 mid 0 in
     let s : share * spotAt mid .span ≡ 20000 = ap (λ (x : ℕ). share * x) span ∙ e in
     let d : r .part ≡ spotAt mid .down * share = f ∙ ap (λ (x : ℕ). x * share) (sym down) in
     record {
@@ -68,26 +68,26 @@ stands mid above below share r l h t e f all =
 -- A stretch of the rule, whatever numbers it has: from depth low to depth high rows stand w half millimetres apart. The test is
 -- at every metre that they touch.
 pub stretch : (low high w more share mid : ℕ) (r : Standing) → low ≤ mid → mid < high → r .part ≡ mid % w * share → r .whole ≡ 20000 → r .row ≡ mid / w + more - 1
-    → T (every ((high + 1999) / 2000) (λ k. either (ltb k (low / 2000)) (evenly (w / 2000) more k)))
-    → 2000 ≤ low → high ≤ 70000 → 2000 * (w / 2000) ≡ w → share * w ≡ 20000 → Stands mid r
+    → T (every ((high + metre - 1) / metre) (λ k. either (ltb k (low / metre)) (evenly (w / metre) more k)))
+    → metre ≤ low → high ≤ 70000 → metre * (w / metre) ≡ w → share * w ≡ 20000 → Stands mid r
 stretch low high w more share mid r l h e all f t first last even whole =
-    let k : ℕ = mid / 2000 in
-    let s : ℕ = w / 2000 in
-    let steps : mid / w ≡ k / s = ap (λ (x : ℕ). mid / x) (sym even) ∙ sym (div-div-eq-div-mul mid 2000 s) in
-    let apart-is : w ≡ s * 2000 = sym even ∙ mul-comm 2000 s in
-    let u : T (evenly s more k) = from (low / 2000) ((high + 1999) / 2000) (evenly s more) t k (omega arith) (omega arith) in
+    let k : ℕ = mid / metre in
+    let s : ℕ = w / metre in
+    let steps : mid / w ≡ k / s = ap (λ (x : ℕ). mid / x) (sym even) ∙ sym (div-div-eq-div-mul mid metre s) in
+    let apart-is : w ≡ s * metre = sym even ∙ mul-comm metre s in
+    let u : T (evenly s more k) = from (low / metre) ((high + metre - 1) / metre) (evenly s more) t k (omega arith) (omega arith) in
     let apart : k / s * s + s - k / s * s ≡ s = omega arith in
-    let down : mid / w * w ≡ k / s * s * 2000 = ap (λ (x : ℕ). x * w) steps ∙ ap (λ (x : ℕ). k / s * x) apart-is ∙ sym (mul-assoc (k / s) s 2000) in
-    let left : mid % w ≡ mid - k / s * s * 2000 = mod-eq-sub-div-mul mid w ∙ ap (λ (x : ℕ). mid - x) down in
+    let down : mid / w * w ≡ k / s * s * metre = ap (λ (x : ℕ). x * w) steps ∙ ap (λ (x : ℕ). k / s * x) apart-is ∙ sym (mul-assoc (k / s) s metre) in
+    let left : mid % w ≡ mid - k / s * s * metre = mod-eq-sub-div-mul mid w ∙ ap (λ (x : ℕ). mid - x) down in
     let i : r .row ≡ k / s + more - 1 = f ∙ ap (λ (x : ℕ). x + more - 1) steps in
-    let parts : share * (s * 2000) ≡ 20000 = ap (λ (x : ℕ). share * x) (sym apart-is) ∙ whole in
+    let parts : share * (s * metre) ≡ 20000 = ap (λ (x : ℕ). share * x) (sym apart-is) ∙ whole in
     stands mid (k / s * s) (k / s * s + s) share r (omega arith) (omega arith) (rw i (row-is _ _ _ k u)) (rw apart parts) (e ∙ ap (λ (x : ℕ). x * share) left) all
 
 -- above the first row and below the last
-pub above-all : (mid : ℕ) → mid < 2000 → Stands mid (record { row = 0; part = 0; whole = mid * 10 })
+pub above-all : (mid : ℕ) → mid < metre → Stands mid (record { row = 0; part = 0; whole = mid * 10 })
 unfolding spotOf rowFor
-above-all mid h = let e : max 2000 (min mid 70000) ≡ 2000 = omega arith in record { row = rw e refl; part = rw e refl; whole = omega arith; last = omega arith; within = omega arith }
+above-all mid h = let e : max metre (min mid 70000) ≡ metre = omega arith in record { row = rw e refl; part = rw e refl; whole = omega arith; last = omega arith; within = omega arith }
 
 pub below-all : (mid : ℕ) → 70000 ≤ mid → Stands mid (record { row = 11; part = 20000; whole = 20000 })
 unfolding spotOf rowFor
-below-all mid h = let e : max 2000 (min mid 70000) ≡ 70000 = omega arith in record { row = rw e refl; part = rw e refl; whole = omega arith; last = omega arith; within = omega arith }
+below-all mid h = let e : max metre (min mid 70000) ≡ 70000 = omega arith in record { row = rw e refl; part = rw e refl; whole = omega arith; last = omega arith; within = omega arith }

@@ -7,7 +7,7 @@ use Rattle.norm_friction_rows.specs.declared.Standing.{Standing}
 
 -- its spot, which no soil changes but for the column
 abbrev pub spotAt : ℕ → Spot
-spotAt mid = spotOf frictionDepths 2000 11 7 mid 0
+spotAt mid = spotOf frictionDepths metre 11 7 mid 0
 
 -- its row, 20,000ths of the way to the next, and how many of them count: as the mid-depth has of 1 m, down to 1 m
 pub record Stands (mid : ℕ) (r : Standing) : Type 0 where

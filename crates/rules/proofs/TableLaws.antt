@@ -55,7 +55,7 @@ row-le ds unit (suc n) i d =
 
 -- rows of table 7.3 lie 1, 2 or 5 m apart: 2,000, 4,000 or 10,000 half millimetres
 abbrev apart : ℕ → ℕ
-apart i = (getD frictionDepths (i + 1) 0 - getD frictionDepths i 0) * 2000
+apart i = (getD frictionDepths (i + 1) 0 - getD frictionDepths i 0) * metre
 
 divides : (n w : ℕ) → T (either (eqb n 2000) (either (eqb n 4000) (eqb n 10000))) → w * 20000 / n * n ≡ w * 20000
 divides n w t = ⊎-elim (λ (e : n ≡ 2000). rw e (omega arith)) (λ (r : (n ≡ 4000) ⊎ (n ≡ 10000)). ⊎-elim (λ (e : n ≡ 4000). rw e (omega arith)) (λ (e : n ≡ 10000). rw e (omega arith)) r) (which (eqb n 2000) (eqb n 4000) refl refl t)
@@ -66,11 +66,11 @@ divides n w t = ⊎-elim (λ (e : n ≡ 2000). rw e (omega arith)) (λ (r : (n �
     which false false e f t = inr (inr (eqb→eq n 10000 t))
 
 -- "Friction is kept in units of 1/200 Pa, in which it is always whole.": no remainder is dropped, at a mid-depth and in any column
-pub column-whole : (mid : ℕ) (p : Spot) → p .span ≡ spotOf frictionDepths 2000 11 7 mid 0 .span → frictionAt p * p .span ≡ frictionWeighed p * 20000
+pub column-whole : (mid : ℕ) (p : Spot) → p .span ≡ spotOf frictionDepths metre 11 7 mid 0 .span → frictionAt p * p .span ≡ frictionWeighed p * 20000
 unfolding frictionAt spotOf
 column-whole mid p e =
-    let i : ℕ = spotOf frictionDepths 2000 11 7 mid 0 .row in
-    let t = at 12 (λ k. either (eqb (apart k) 2000) (either (eqb (apart k) 4000) (eqb (apart k) 10000))) tt i (omega (arith, row-le frictionDepths 2000 11 0 (max 2000 (min mid 70000)))) in
+    let i : ℕ = spotOf frictionDepths metre 11 7 mid 0 .row in
+    let t = at 12 (λ k. either (eqb (apart k) 2000) (either (eqb (apart k) 4000) (eqb (apart k) 10000))) tt i (omega (arith, row-le frictionDepths metre 11 0 (max metre (min mid 70000)))) in
     divides (p .span) (frictionWeighed p) (rw e t)
 
 pub friction-whole : (s : Soil) (mid : ℕ) → metre ≤ mid → friction s mid * frictionSpot s mid .span ≡ frictionWeighed (frictionSpot s mid) * 20000

@@ -46,7 +46,7 @@ frictionSpot s mid = spotIn frictionDepths frictionRows metre mid (hundredths s)
 abbrev pub tableFriction : Soil → ℕ → ℕ
 tableFriction s mid = frictionAt (frictionSpot s mid)
 
--- that, and in the first metre by 02 (v)
+-- the friction of a slice: that, and in the first metre as 02 (v) says
 unfoldable pub friction : Soil → ℕ → ℕ
 friction s mid = withFirstMetre (tableFriction s) mid
 

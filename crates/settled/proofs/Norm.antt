@@ -1,7 +1,7 @@
 -- That each contract of the layer norm settles its reply.
 use mathlib.Core.Path.{_≡_, sym, _∙_}
 use native.Mathlib.Nat.{eq-of-mul-eq-mul-right}
-use Rattle.rules.specs.Tables.{frictionDepths}
+use Rattle.rules.specs.Tables.{frictionDepths, metre}
 use Rattle.norm_columns.specs.declared.Column.{Column}
 use Rattle.norm_spots.proofs.Rows.{in-table}
 use Rattle.norm_friction_rows.specs.declared.Standing.{Standing}
@@ -41,7 +41,7 @@ standing n a w = λ i. record { row = n i; part = a i; whole = w i }
 pub friction-row : Settled norm-friction-rows.friction_row.Kinds.ps norm-friction-rows.friction_row.Kinds.r norm-friction-rows.friction_row.Reads.Pre norm-friction-rows.friction_row.Reads.Learnt
 friction-row c _ _ h g =
     let mid = c .args .0 in
-    let far = in-table frictionDepths 2000 11 friction-deepens 7 mid 0 .weights .some in
+    let far = in-table frictionDepths metre 11 friction-deepens 7 mid 0 .weights .some in
     standing (h .row ∙ sym (g .row)) (eq-of-mul-eq-mul-right (spotAt mid .span) far _ _ (h .part ∙ sym (g .part))) (h .whole ∙ sym (g .whole))
 
 pub tip-spot : Settled norm-tip-rows.tip_spot.Kinds.ps norm-tip-rows.tip_spot.Kinds.r norm-tip-rows.tip_spot.Reads.Pre norm-tip-rows.tip_spot.Reads.Learnt
