@@ -1,4 +1,6 @@
 // The plain calculation: checks 1 to 4, then what is worked out.
+#![tactic(auto)]
+
 ghost use Rattle.std.specs.Prelude.{◌≡◌};
 ghost use Rattle.rules.specs.Calculation.{calculated, table_after};
 

@@ -1,4 +1,6 @@
 // The five numbers of an answer, roundings 2 to 6. (1, R, stands with the tip table.)
+#![tactic(auto)]
+
 ghost use Rattle.std.specs.Prelude.{◌≡◌, ◌+◌, ◌/◌, ◌≤◌};
 ghost use Rattle.rules.specs.Bounds.{resistance_bound, sum_bound, line_bound, force_bound};
 ghost use Rattle.rules.specs.Numbers.{tip_force, shaft_force, capacity_of, uplift_of};

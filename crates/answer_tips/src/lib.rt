@@ -1,4 +1,6 @@
 // The tip of a pile in the soil below it: checks 9 to 12 and 17, and R where none refuses.
+#![tactic(auto)]
+
 ghost use Rattle.std.specs.Prelude.{◌≡◌, true, false};
 ghost use Rattle.rules.specs.Numbers.{sand};
 ghost use Rattle.rules.specs.declared.SandRecord.TheVariants.{Given};

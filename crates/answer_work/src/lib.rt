@@ -1,6 +1,8 @@
 // What is worked out of a log past its checks, a pile record and its extra record: checks 5 to 12 and 17 in order, the numbers, and the slice
 // table, written in place.
 // Nothing counts the slices: a table has places for every shaft of a pile that passes checks 7 and 8.
+#![tactic(auto)]
+
 ghost use Rattle.std.specs.Prelude.{◌≡◌, false, ◌≤◌, length, replicate};
 ghost use Rattle.rules.specs.Base as base;
 ghost use Rattle.rules.specs.Limits.{limit_of, table_size};

@@ -1,4 +1,6 @@
 // Bytes put into a lent buffer.
+#![tactic(auto)]
+
 ghost use Rattle.std.specs.Prelude.{◌≡◌, ◌++◌, ◌+◌, ◌≤◌, length, take, drop};
 
 // All of s goes to d, from byte `at` on.

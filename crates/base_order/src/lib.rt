@@ -1,4 +1,6 @@
 // The smaller and the larger of two numbers, and a byte or two as a number of 64 bits.
+#![tactic(auto)]
+
 ghost use Rattle.std.specs.Prelude.{◌≡◌, ◌<◌, min, max};
 
 pub fn smaller(a: u64, b: u64) -> u64

@@ -1,4 +1,6 @@
 // What checks reply: a refusal by its number, the first of two, the answer that a refusal gives, and ranges.
+#![tactic(auto)]
+
 ghost use Rattle.std.specs.Prelude.{◌≡◌};
 ghost use Rattle.rules.specs.Base as base;
 ghost use Rattle.rules.specs.Base.{within};

@@ -1,4 +1,6 @@
 // The log as an accepted edit leaves it. `requires` is that the checks let the edit pass.
+#![tactic(auto)]
+
 ghost use Rattle.std.specs.Prelude.{◌≡◌, true, false, ◌+◌, ◌*◌, ◌-◌, ◌≤◌, ◌<◌, length};
 ghost use Rattle.rules.specs.Base.{refuses};
 ghost use Rattle.rules.specs.Records.{row_size};

@@ -1,4 +1,6 @@
 // The refusals of an edit, in order: 1 to 4 of what is lent, 13, 14, 3 for the new row, 4 for the new log; and how deep the new log is.
+#![tactic(auto)]
+
 ghost use Rattle.std.specs.Prelude.{◌≡◌, ◌⊎◌, ◌+◌, ◌*◌, ◌≤◌, ◌<◌, length};
 ghost use Rattle.rules.specs.Base as base;
 ghost use Rattle.rules.specs.Records.{row_size};

@@ -1,4 +1,6 @@
 // The changed log worked out into the lent table, and how many leading slices are kept.
+#![tactic(auto)]
+
 ghost use Rattle.std.specs.Prelude.{◌≡◌, length};
 ghost use Rattle.rules.specs.Limits.{limit_of, table_size};
 ghost use Rattle.rules.specs.Packed.{rows_of};

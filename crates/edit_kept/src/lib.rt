@@ -1,5 +1,7 @@
 // The slice table before and after an edit: a copy of the one that is lent, and how many leading slices of the new one are kept.
 // Each `requires` is that a table has the bytes that are read or copied; check 1 saw to that.
+#![tactic(auto)]
+
 ghost use Rattle.std.specs.Prelude.{◌≡◌, ◌*◌, ◌≤◌, length};
 ghost use Rattle.rules.specs.Records.{slice_size};
 ghost use Rattle.rules.specs.Limits.{row_limit, table_size};

@@ -1,5 +1,7 @@
 // What an accepted edit does to the log's bytes: the rows from row k on move by one place, and the count follows. Rows count from 1.
 // Each `requires` is that the log has the places that are moved, and that the count can be so; the checks see to both.
+#![tactic(auto)]
+
 ghost use Rattle.std.specs.Prelude.{◌≡◌, ◌+◌, ◌-◌, ◌*◌, ◌≤◌, ◌<◌, length};
 ghost use Rattle.rules.specs.Records.{row_size};
 ghost use Rattle.rules.specs.Packed.{count_of};

@@ -1,5 +1,7 @@
 // What an edit names, and whether there is room: one of four kinds, a row of the log, a split point in it, and a place for one more row.
 // Checks 13 and 14. Each `requires` is that the log has the bytes of its rows; checks 1 and 2 come before.
+#![tactic(auto)]
+
 ghost use Rattle.std.specs.Prelude.{◌≡◌, [], ◌+◌, ◌*◌, ◌≤◌, ◌<◌, length};
 ghost use Rattle.rules.specs.Base.{within};
 ghost use Rattle.rules.specs.Records.{row_size};

@@ -1,4 +1,6 @@
 // The four edits of a lent log: their refusals in order, the log as it then stands, its answer and table, and kept.
+#![tactic(auto)]
+
 ghost use Rattle.std.specs.Prelude.{◌≡◌};
 ghost use Rattle.rules.specs.Edits.{asked};
 ghost use Rattle.rules.specs.EditReplies.{edit_reply, edit_log, edit_table};

@@ -1,5 +1,7 @@
 // The row places of a lent part of a log, moved by five bytes: a place opened, closed, or given to two rows.
 // The part begins where the first place begins. Each `requires` is that it has so many bytes, which the callers see to.
+#![tactic(auto)]
+
 ghost use Rattle.std.specs.Prelude.{◌≡◌, ◌*◌, ◌≤◌, length};
 ghost use Rattle.rules.specs.Records.{row_size};
 ghost use Rattle.edit_row_places.specs.Places.{opened, raised, closed, inserted, divided};

@@ -1,5 +1,7 @@
 // Runs the steps that standard input holds, each of 25 bytes, on one log, pile record, extra record and slice table: an edit, or bytes put into
 // one of the four. After an edit it prints the reply and a sum of the log's and of the table's bytes.
+#![tactic(auto)]
+
 ghost use Rattle.std.specs.Prelude.{◌≡◌, ◌≤◌, ◌<◌, length};
 ghost use Rattle.io.specs.Counts.{IsPrefixLen};
 

@@ -1,4 +1,6 @@
 // The slices of a part of one stratum: how thick each is, its friction and factor, its place in the lent table, and its part of the sum.
+#![tactic(auto)]
+
 ghost use Rattle.std.specs.Prelude.{◌≡◌, ◌+◌, ◌*◌, ◌-◌, ◌^◌, ◌<◌, ◌≤◌, length};
 ghost use Rattle.rules.specs.Widths.{Fits};
 ghost use Rattle.rules.specs.Records.{slice_widths, slice_fields, slice_size};

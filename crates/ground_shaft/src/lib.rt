@@ -1,5 +1,7 @@
 // The shaft cut into slices: stratum after stratum from the ground down to the tip, each slice put into its place of the lent table; and
 // the soil that the tip stands on, with the top of its stratum.
+#![tactic(auto)]
+
 ghost use Rattle.std.specs.Prelude.{◌≡◌, ◌≤◌, length};
 ghost use Rattle.rules.specs.Bounds.{sum_bound};
 ghost use Rattle.rules.specs.Tables.{friction_rows};

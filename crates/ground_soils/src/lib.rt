@@ -1,4 +1,6 @@
 // The soil of a row, and whether two soils are the same: what parts two strata.
+#![tactic(auto)]
+
 ghost use Rattle.std.specs.Prelude.{◌≡◌};
 ghost use Rattle.rules.specs.Ground.{same, soil_of};
 

@@ -1,4 +1,6 @@
 // A stratum along the rows of a log: from the row at which it begins, as long as the soil stays the same.
+#![tactic(auto)]
+
 ghost use Rattle.rules.specs.Checks.{Passed};
 ghost use Rattle.ground_strata.specs.Strata.{Begins, Reaches};
 

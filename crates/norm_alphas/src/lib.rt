@@ -1,4 +1,6 @@
 // Table 7.7, read as the pile norm says: the coefficients of a tip in sand, in whole ten-thousandths.
+#![tactic(auto)]
+
 ghost use Rattle.std.specs.Prelude.{◌≡◌, ◌+◌, ◌*◌, ◌<◌, ◌≤◌};
 ghost use Rattle.rules.specs.Bounds.{cell_bound};
 ghost use Rattle.rules.specs.SandTips.{sand_lines, sand_cell};

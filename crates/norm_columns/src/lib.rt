@@ -1,4 +1,6 @@
 // Which column of a table of the pile norm an index reads, and two numbers weighed.
+#![tactic(auto)]
+
 ghost use Rattle.std.specs.Prelude.{◌≡◌, ◌+◌, ◌*◌, ◌-◌, ◌<◌, ◌≤◌, max};
 ghost use Rattle.rules.specs.Bounds.{weighed_bound};
 ghost use Rattle.norm_columns.specs.Across.{Across};

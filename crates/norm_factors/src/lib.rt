@@ -1,4 +1,6 @@
 // The method factor.
+#![tactic(auto)]
+
 ghost use Rattle.std.specs.Prelude.{◌≡◌, ◌≤◌};
 ghost use Rattle.rules.specs.Bounds.{factor_bound};
 ghost use Rattle.rules.specs.Numbers as numbers;

@@ -1,5 +1,7 @@
 // Table 7.3, read as the pile norm says: friction by soil and mid-depth, the column by the soil, the rows by the depth. A function that
 // names a constant array makes all of it anew: whoever reads often asks for the rows once, and lends them.
+#![tactic(auto)]
+
 ghost use Rattle.std.specs.Prelude.{◌≡◌, ◌+◌, ◌*◌, ◌-◌, ◌<◌, ◌≤◌, get_or};
 ghost use Rattle.rules.specs.Bounds.{cell_bound, friction_bound};
 ghost use Rattle.rules.specs.Numbers as numbers;

@@ -1,4 +1,6 @@
 // Where a mid-depth stands among the rows of table 7.3, by arithmetic on the depth.
+#![tactic(auto)]
+
 ghost use Rattle.norm_friction_rows.specs.Standings.{Stands};
 
 // The row above a mid-depth, 20,000ths of the way to the next row, and how many 20,000ths of a reading count.

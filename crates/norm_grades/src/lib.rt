@@ -1,4 +1,6 @@
 // The grade of a site: how deep it is cut, how deep a tip then is, and how far a cut or a fill moves the depths at which tables are read.
+#![tactic(auto)]
+
 ghost use Rattle.std.specs.Prelude.{◌≡◌, ◌-◌, ◌^◌, ◌≤◌};
 ghost use Rattle.rules.specs.Grades as rule;
 

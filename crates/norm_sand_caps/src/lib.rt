@@ -1,4 +1,6 @@
 // Table 7.2, its columns for sand, read as the pile norm says: the most that R of a tip in sand may be.
+#![tactic(auto)]
+
 ghost use Rattle.std.specs.Prelude.{◌≡◌, ◌-◌, ◌*◌, ◌<◌, ◌≤◌};
 ghost use Rattle.rules.specs.Bounds.{cell_bound, resistance_bound};
 ghost use Rattle.rules.specs.SandTips.{cap_columns, cap_cell};

@@ -1,4 +1,6 @@
 // R of a tip in sand, by formula (7.12) of the pile norm, and at most what table 7.2 allows.
+#![tactic(auto)]
+
 ghost use Rattle.std.specs.Prelude.{◌≡◌, ◌+◌, ◌*◌, ◌/◌, ◌<◌, ◌≤◌};
 ghost use Rattle.rules.specs.Bounds.{cell_bound, resistance_bound};
 ghost use Rattle.rules.specs.SandTips as rule;

@@ -1,4 +1,6 @@
 // Where a number stands on the printed scales of tables 7.7 and 7.2: its place by arithmetic, with no list of marks.
+#![tactic(auto)]
+
 ghost use Rattle.std.specs.Prelude.{◌≡◌, ◌*◌, ◌-◌, ◌<◌, ◌≤◌};
 ghost use Rattle.rules.specs.SandTips.{angles, ratios, cap_depths};
 ghost use Rattle.rules.specs.SandTips as rule;

@@ -1,4 +1,6 @@
 // The four cells weighed between which a reading of a table of the pile norm stands.
+#![tactic(auto)]
+
 ghost use Rattle.std.specs.Prelude.{◌≡◌, ◌*◌, ◌≤◌};
 ghost use Rattle.rules.specs.Bounds.{cell_bound};
 ghost use Rattle.rules.specs.Tables.{weighed};

@@ -1,5 +1,7 @@
 // Prints every printed cell of table 7.7, and of the sand columns of table 7.2, as it is read at its own marks: a line for each, with the number
 // of the coefficient (7 for table 7.2), the marks and what is read there. stdout has what the norm prints, from the second program.
+#![tactic(auto)]
+
 ghost use Rattle.std.specs.Prelude.{◌≤◌};
 
 use norm_alphas::{alpha_1, alpha_2, alpha_3, alpha_4};

@@ -1,4 +1,6 @@
 // What table 7.8 was read to, told apart: R in pascals, or a dash.
+#![tactic(auto)]
+
 ghost use Rattle.std.specs.Prelude.{◌≡◌};
 ghost use Rattle.rules.specs.Numbers as numbers;
 

@@ -1,4 +1,6 @@
 // Where a depth and an index stand in table 7.8: the row by arithmetic on whole metres.
+#![tactic(auto)]
+
 ghost use Rattle.std.specs.Prelude.{◌≡◌, ◌<◌, ◌≤◌, get_or};
 ghost use Rattle.rules.specs.Tables.{tip_depths, row_for, spot_of};
 ghost use Rattle.norm_spots.specs.Spots.{InTable};

@@ -1,4 +1,6 @@
 // Table 7.8, read as the pile norm says: resistance under the tip, by depth and index.
+#![tactic(auto)]
+
 ghost use Rattle.std.specs.Prelude.{◌≡◌, ◌*◌, ◌/◌, ◌<◌, ◌≤◌};
 ghost use Rattle.rules.specs.Bounds.{cell_bound, resistance_bound};
 ghost use Rattle.rules.specs.Tables.{tip_cell, kpa_of, gap};

@@ -1,4 +1,6 @@
 // The door for hosts: the core's entries under plain names, for C and Rust. Each takes any bytes of any length, and replies.
+#![tactic(auto)]
+
 ghost use Rattle.std.specs.Prelude.{◌≡◌};
 ghost use Rattle.rules.specs.Edits.{asked};
 ghost use Rattle.rules.specs.Reading.{read_log, read_pile, read_slice, pack_log_check, packed_log, pile_of_read, pack_pile_check, packed_pile};

@@ -1,4 +1,6 @@
 // A bit reader and a bit writer by value: each call hands back the moved cursor with its value.
+#![tactic(auto)]
+
 ghost use Rattle.std.specs.Prelude.{◌≡◌, ◌+◌, ◌^◌, ◌<◌, ◌≤◌};
 ghost use Rattle.record_bits.specs.Word.{word_bits, Taken, Written};
 

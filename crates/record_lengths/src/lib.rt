@@ -1,4 +1,6 @@
 // Check 1 of a log, a pile record and a slice table: the lengths that they may have, and the row limit that the length of a log or a table tells.
+#![tactic(auto)]
+
 ghost use Rattle.std.specs.Prelude.{◌≡◌, ◌≤◌};
 ghost use Rattle.rules.specs.Limits.{row_limit, forms, log_size, table_size, form_by};
 ghost use Rattle.rules.specs.Checks.{pile_length_wrong, lengths_wrong};

@@ -1,4 +1,6 @@
 // Checks 2 to 4 of a log, of which 2 stands in record_unused: its rows and their depth.
+#![tactic(auto)]
+
 ghost use Rattle.std.specs.Prelude.{◌≡◌, ◌+◌, ◌*◌, ◌^◌, ◌<◌, ◌≤◌, length};
 ghost use Rattle.rules.specs.Base as base;
 ghost use Rattle.rules.specs.Records.{row_size};

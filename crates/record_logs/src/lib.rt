@@ -1,4 +1,6 @@
 // A log read by itself: checks 1 to 3, and all its places.
+#![tactic(auto)]
+
 ghost use Rattle.std.specs.Prelude.{◌≡◌, false, ◌<◌};
 ghost use Rattle.rules.specs.Limits.{limit_of};
 ghost use Rattle.rules.specs.Checks.{unused_wrong};

@@ -1,4 +1,6 @@
 // Packing a log: its checks, and its count and row places as the bytes of the form that the lent buffer's length tells.
+#![tactic(auto)]
+
 ghost use Rattle.std.specs.Prelude.{◌≡◌, ◌≤◌, length, take, drop};
 ghost use Rattle.rules.specs.Base as Base;
 ghost use Rattle.rules.specs.Base.{when};

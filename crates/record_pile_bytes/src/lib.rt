@@ -1,4 +1,6 @@
 // A pile record packed: its bytes from its fields, eight of them or, with a grade, ten.
+#![tactic(auto)]
+
 ghost use Rattle.std.specs.Prelude.{◌≡◌};
 ghost use Rattle.rules.specs.Base.{either};
 ghost use Rattle.rules.specs.Widths.{fields_of, join, bytes};

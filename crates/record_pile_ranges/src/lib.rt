@@ -1,4 +1,6 @@
 // The ranges of a pile record's fields: checks 5 and 6.
+#![tactic(auto)]
+
 ghost use Rattle.std.specs.Prelude.{◌≡◌};
 ghost use Rattle.rules.specs.Base.{when};
 ghost use Rattle.rules.specs.Checks.{a_in_range, b_in_range, wrong_pile_field, section_check, method_wrong};

@@ -1,4 +1,6 @@
 // A pile record read: its fields from its bytes, eight of them or, with a grade, ten.
+#![tactic(auto)]
+
 ghost use Rattle.std.specs.Prelude.{◌≡◌, ◌+◌, ◌*◌, ◌<◌, get_or};
 ghost use Rattle.rules.specs.Records.{plain_size};
 ghost use Rattle.rules.specs.Packed.{pile_of};

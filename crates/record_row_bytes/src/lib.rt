@@ -1,4 +1,6 @@
 // A row of a log packed: its five bytes from its five fields.
+#![tactic(auto)]
+
 ghost use Rattle.std.specs.Prelude.{◌≡◌};
 ghost use Rattle.rules.specs.Packed.{row_bytes};
 

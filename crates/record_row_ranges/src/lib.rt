@@ -1,4 +1,6 @@
 // The ranges of a row's fields: check 3, and what an unused place holds.
+#![tactic(auto)]
+
 ghost use Rattle.std.specs.Prelude.{◌≡◌, eqb};
 ghost use Rattle.rules.specs.Checks.{index_in_range, wrong_field};
 ghost use Rattle.rules.specs.Reading.{row_zero};

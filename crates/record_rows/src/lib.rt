@@ -1,4 +1,6 @@
 // A row of a log read: its five fields from its five bytes.
+#![tactic(auto)]
+
 ghost use Rattle.std.specs.Prelude.{◌≡◌, ◌+◌, ◌≤◌, length};
 ghost use Rattle.rules.specs.Widths.{fields_of};
 ghost use Rattle.rules.specs.Records.{row_from, row_size, row_widths};

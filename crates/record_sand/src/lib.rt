@@ -1,4 +1,6 @@
 // The extra record of a sand tip, as hosts give it.
+#![tactic(auto)]
+
 ghost use Rattle.std.specs.Prelude.{◌≡◌};
 ghost use Rattle.rules.specs.SandTips.{sand_from};
 

@@ -1,4 +1,6 @@
 // The lent slice table: cleared, and a slice put into a place of it.
+#![tactic(auto)]
+
 ghost use Rattle.std.specs.Prelude.{◌≡◌, ◌+◌, ◌*◌, ◌≤◌, length, replicate};
 ghost use Rattle.rules.specs.Records.{slice_size};
 ghost use Rattle.record_slice_table.specs.Table.{put_at};

@@ -1,4 +1,6 @@
 // A place of a slice table: its four fields and its seven bytes.
+#![tactic(auto)]
+
 ghost use Rattle.std.specs.Prelude.{◌≡◌};
 ghost use Rattle.rules.specs.Packed.{slice_at, slice_bytes};
 ghost use Rattle.rules.specs.Reading.{read_slice, no_slice};

@@ -2,6 +2,8 @@
 //
 // A case: its kind, two bytes with a length, two bytes with how many bytes follow, and those bytes. What is read is that long,
 // the bytes that follow and then zeros, and the last two of 600 say which place or byte; what is packed goes to a buffer that long, 165 in every byte.
+#![tactic(auto)]
+
 mod given;
 mod packs;
 mod reads;

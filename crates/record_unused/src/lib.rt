@@ -1,4 +1,6 @@
 // Check 2 of a log: its count, and its unused places.
+#![tactic(auto)]
+
 ghost use Rattle.std.specs.Prelude.{◌≡◌, ◌+◌, ◌*◌, ◌<◌, drop};
 ghost use Rattle.rules.specs.Base.{neg, all_zero};
 ghost use Rattle.rules.specs.Records.{row_size};

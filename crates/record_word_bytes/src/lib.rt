@@ -1,4 +1,6 @@
 // A number of 64 bits as its eight bytes, the first the most significant.
+#![tactic(auto)]
+
 ghost use Rattle.std.specs.Prelude.{◌≡◌};
 ghost use Rattle.rules.specs.Widths.{fields_of, bytes};
 ghost use Rattle.record_bits.specs.Word.{word_size};

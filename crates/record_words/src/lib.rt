@@ -1,4 +1,6 @@
 // The bytes of a record as one number, the first the most significant.
+#![tactic(auto)]
+
 ghost use Rattle.std.specs.Prelude.{◌≡◌, ◌+◌, ◌*◌, ◌^◌, ◌≤◌, ◌<◌, length};
 ghost use Rattle.rules.specs.Records.{row_size};
 ghost use Rattle.rules.specs.Packed.{number_at};

@@ -1,5 +1,7 @@
 // The things documents 01 and 02 speak of, as types: soil, row, log, pile, extra record, slice, refusal, answer, and the cells of a table.
 // Every other crate, and every definition in specs/, uses these.
+#![tactic(auto)]
+
 mod limits;
 mod widths;
 

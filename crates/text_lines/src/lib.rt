@@ -10,6 +10,8 @@
 //
 // For the proof of such a loop, proofs/SheetLaws carries `Holds n buf at text`, that the n bytes are the text and zeros behind
 // it, from call to call: sheet-begun, sheet-more, sheet-ended, and sheet-refused.
+#![tactic(auto)]
+
 ghost use Rattle.std.specs.Prelude.{◌+◌, ◌*◌, ◌<◌, ◌≤◌, length};
 ghost use Rattle.rules.specs.Sheet.{text_line, answer_line, slice_line, total_line};
 ghost use Rattle.text_writing.specs.Text.{Put};

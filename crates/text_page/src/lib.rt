@@ -1,4 +1,6 @@
 // The sheet of a log and a pile record, laid out on a page.
+#![tactic(auto)]
+
 ghost use Rattle.std.specs.Prelude.{◌≡◌, List, ◌+◌, ◌≤◌, min, length, replicate};
 ghost use Rattle.rules.specs.Limits.{row_limit, forms, form_by, log_size, table_size};
 ghost use Rattle.rules.specs.Sheet.{input_limit, sheet_of, sheet_text};

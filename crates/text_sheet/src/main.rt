@@ -1,4 +1,6 @@
 // The sheet program: a log and a pile record from standard input, their sheet to standard output.
+#![tactic(auto)]
+
 use libc::{STDIN_FILENO, STDOUT_FILENO};
 use rules::{GRADED_SIZE, LOG_SIZE};
 
