@@ -14,7 +14,7 @@ use norm_tips::tip_resistance;
 use rules::{Pile, SandNumbers, SandRecord, Soil};
 
 // The number of the first that refuses and no R, or 0 and R in whole Pa.
-#[derive(Drop)]
+#[derive(Clone, Copy)]
 pub struct TipWork {
     pub refusal: u32,
     pub resistance: u64,

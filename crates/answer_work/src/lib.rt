@@ -23,7 +23,7 @@ use record_slice_table::clear_table;
 use rules::{Answer, Pile, Refusal, SandRecord};
 
 // What is worked out of a log and a pile record beside the table: the answer, and how many slices it has.
-#[derive(Drop)]
+#[derive(Clone, Copy)]
 pub struct Worked {
     pub answer: Answer,
     pub used: usize,

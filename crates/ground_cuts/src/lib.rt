@@ -19,7 +19,7 @@ use record_slice_table::put_slice;
 use rules::{Pile, Slice, Soil, THICKEST_SLICE};
 
 // How many places of the table are used, and friction × thickness × factor of the slices that were cut, added up.
-#[derive(Drop)]
+#[derive(Clone, Copy)]
 pub struct Cut {
     pub used: usize,
     pub sum: u64,

@@ -17,7 +17,7 @@ use record_slice_table::clear_table;
 use rules::{Pile, ROW_SIZE, Soil};
 
 // How many slices a shaft has, the sum of friction × thickness × factor, the soil below the tip and the top of its stratum.
-#[derive(Drop)]
+#[derive(Clone, Copy)]
 pub struct Shaft {
     pub used: usize,
     pub sum: u64,

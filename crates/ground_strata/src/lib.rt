@@ -9,7 +9,7 @@ use record_rows::row_inside;
 use rules::{ROW_SIZE, Soil};
 
 // Its soil, the depth down to which it goes, and the row that comes next, counted from 0.
-#[derive(Drop)]
+#[derive(Clone, Copy)]
 pub struct StratumFound {
     pub soil: Soil,
     pub bottom: u64,

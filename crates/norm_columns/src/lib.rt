@@ -18,7 +18,7 @@ pub fn past(first: u8, index: u8) -> u64
 }
 
 // The column left of a reading, and tenths of the way to the next.
-#[derive(Drop)]
+#[derive(Clone, Copy)]
 pub struct Column {
     pub number: usize,
     pub across: u64,

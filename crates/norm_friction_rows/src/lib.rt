@@ -4,7 +4,7 @@
 ghost use Rattle.norm_friction_rows.specs.Standings.{Stands};
 
 // The row above a mid-depth, 20,000ths of the way to the next row, and how many 20,000ths of a reading count.
-#[derive(Drop)]
+#[derive(Clone, Copy)]
 pub struct Standing {
     pub row: usize,
     pub part: u64,

@@ -39,7 +39,7 @@ pub fn below_cut(grade: u16, depth: u16) -> u64
 }
 
 // How far the depths at which the tables are read are moved, in millimetres: raised by a fill, lowered by a cut.
-#[derive(Drop)]
+#[derive(Clone, Copy)]
 pub struct Shift {
     pub raising: u64,
     pub lowering: u64,

@@ -10,7 +10,7 @@ use base_order::{larger, smaller};
 use rules::OnScale;
 
 // A place of a scale, its mark and the next.
-#[derive(Drop)]
+#[derive(Clone, Copy)]
 struct Step {
     place: u64,
     mark: u64,

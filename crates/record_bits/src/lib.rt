@@ -10,13 +10,13 @@ pub const WORD_BITS: usize = WORD_SIZE * 8;
 
 // A record's bytes as one number, the first the most significant, and the bit at which the next field begins,
 // counted from the top of the word: eight bytes begin at bit 0, five at bit 24.
-#[derive(Drop)]
+#[derive(Clone, Copy)]
 pub struct Cursor {
     pub word: u64,
     pub at: usize,
 }
 
-#[derive(Drop)]
+#[derive(Clone, Copy)]
 pub struct Bits {
     pub value: u64,
     pub next: Cursor,

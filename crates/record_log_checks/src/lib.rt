@@ -13,7 +13,7 @@ use record_unused::unused_wrong;
 use rules::{DEPTH_LIMIT, ROW_SIZE, Refusal};
 
 // What checks of a log found, and how deep its rows go.
-#[derive(Drop)]
+#[derive(Clone, Copy)]
 pub struct Checked {
     pub refusal: Refusal,
     pub depth: u64,

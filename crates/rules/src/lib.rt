@@ -17,7 +17,7 @@ pub use widths::{
 
 // Refusal number, row and field; all 0 where nothing is refused.
 #[repr(C)]
-#[derive(Drop)]
+#[derive(Clone, Copy)]
 pub struct Refusal {
     pub number: u32,
     pub row: u32,
@@ -26,7 +26,7 @@ pub struct Refusal {
 
 // A row of a log, its five fields in order. The index is stored as hundredths plus 100.
 #[repr(C)]
-#[derive(Drop)]
+#[derive(Clone, Copy)]
 pub struct Row {
     pub thickness: u16,
     pub kind: u8,
@@ -37,14 +37,14 @@ pub struct Row {
 
 // A log: how many rows are used, and all its places.
 #[repr(C)]
-#[derive(Drop)]
+#[derive(Clone, Copy)]
 pub struct Log {
     pub count: u8,
     pub rows: [Row; ROW_LIMIT],
 }
 
 // A pile record, its fields in order. The grade is its 16 bits in two's complement, as a number.
-#[derive(Drop)]
+#[derive(Clone, Copy)]
 pub struct Pile {
     pub section: u8,
     pub a: u16,
@@ -58,7 +58,7 @@ pub struct Pile {
 
 // What a sand tip brings: the friction angle of the soil at the base in hundredths of a degree, and two unit weights in N/m³, that of the soil
 // below, at the base, and the mean one of the soils above.
-#[derive(Drop)]
+#[derive(Clone, Copy)]
 pub struct SandNumbers {
     pub angle: u32,
     pub below: u32,
@@ -66,7 +66,7 @@ pub struct SandNumbers {
 }
 
 // The extra record of a sand tip. Absent is a case of its own, not three zeros.
-#[derive(Drop)]
+#[derive(Clone, Copy)]
 pub enum SandRecord {
     Absent,
     Given(SandNumbers),
@@ -74,7 +74,7 @@ pub enum SandRecord {
 
 // A slice as the table holds it: friction in 1/200 Pa, factor in tenths.
 #[repr(C)]
-#[derive(Drop)]
+#[derive(Clone, Copy)]
 pub struct Slice {
     pub top: u16,
     pub thickness: u16,
@@ -84,7 +84,7 @@ pub struct Slice {
 
 // What reading a log, a pile record or a place of a slice table replies.
 #[repr(C)]
-#[derive(Drop)]
+#[derive(Clone, Copy)]
 pub struct LogRead {
     pub refusal: Refusal,
     pub log: Log,
@@ -93,7 +93,7 @@ pub struct LogRead {
 // The fields of a pile record stand flat: between a length of one byte and a section of one byte no struct can begin. The length is 8 or 10,
 // or 0 where the reading is refused.
 #[repr(C)]
-#[derive(Drop)]
+#[derive(Clone, Copy)]
 pub struct PileRead {
     pub refusal: Refusal,
     pub length: u8,
@@ -108,7 +108,7 @@ pub struct PileRead {
 }
 
 #[repr(C)]
-#[derive(Drop)]
+#[derive(Clone, Copy)]
 pub struct SliceRead {
     pub refusal: u32,
     pub slice: Slice,
@@ -116,7 +116,7 @@ pub struct SliceRead {
 
 // The extra record of a sand tip as hosts give it: absent where given is 0.
 #[repr(C)]
-#[derive(Drop)]
+#[derive(Clone, Copy)]
 pub struct SandFields {
     pub given: u32,
     pub angle: u32,
@@ -126,7 +126,7 @@ pub struct SandFields {
 
 // What a calculation or an edit replies: line in N/m, the other four in N.
 #[repr(C)]
-#[derive(Drop)]
+#[derive(Clone, Copy)]
 pub struct Answer {
     pub refusal: Refusal,
     pub kept: u32,
@@ -138,7 +138,7 @@ pub struct Answer {
 }
 
 // What makes two millimetres one stratum.
-#[derive(Drop)]
+#[derive(Clone, Copy)]
 pub struct Soil {
     pub kind: u8,
     pub index: u8,
@@ -146,14 +146,14 @@ pub struct Soil {
 }
 
 // A cell of the tip table: a dash, or kPa.
-#[derive(Drop)]
+#[derive(Clone, Copy)]
 pub enum Cell {
     Dash,
     Kpa(u64),
 }
 
 // What the tip table is read to: a dash with a weight above zero, or R in whole Pa.
-#[derive(Drop)]
+#[derive(Clone, Copy)]
 pub enum TipRead {
     Dashed,
     Pascals(u64),
@@ -161,7 +161,7 @@ pub enum TipRead {
 
 // Where a reading stands in a table: row and column of the upper left of four cells, and the weights of the lower row
 // and the right column: down parts of span, and across parts of ten.
-#[derive(Drop)]
+#[derive(Clone, Copy)]
 pub struct Spot {
     pub row: usize,
     pub column: usize,
@@ -171,7 +171,7 @@ pub struct Spot {
 }
 
 // Where a number stands on a printed scale: past the mark at this place, by so many parts of the span to the next.
-#[derive(Drop)]
+#[derive(Clone, Copy)]
 pub struct OnScale {
     pub place: usize,
     pub past: u64,

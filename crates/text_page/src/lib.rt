@@ -17,7 +17,7 @@ use rules::{
 const PAGE_SIZE: usize = 4096;
 
 // The text that is printed is the first len bytes; the others are zero.
-#[derive(Drop)]
+#[derive(Clone, Copy)]
 pub struct Page {
     pub bytes: [u8; PAGE_SIZE],
     pub len: usize,
