@@ -26,6 +26,7 @@ fn lower_count(log: &mut [u8])
     log[0] -= 1;
 }
 
+#[tactic(auto, using(crate::proofs::PartLaws::row_put))]
 pub fn replace_row(log: &mut [u8], k: usize, row: [u8; ROW_SIZE])
     requires { (1 ≤ k) × (1 + k * row_size ≤ length log.old) }
     ensures { log.new ≡ replaced_log (k - 1) row log.old }
