@@ -7,7 +7,7 @@ ghost use Rattle.std.specs.Prelude.{◌≡◌, ◌≤◌, ◌<◌, length, take,
 use base_copies::copy_in;
 use base_order::wide;
 use rules::{Answer, ROW_SIZE, SandFields};
-use std::io::{self, BufReader, Read};
+use std::io::{self, Read};
 
 const STEP_LIMIT: usize = 10000;
 
@@ -265,7 +265,7 @@ fn run(
 }
 
 fn main(rt: HostRuntime) -> io::Result<()> {
-    let mut input = BufReader::new(rt.alloc(), rt.reader())?;
+    let mut input = rt.reader();
     let mut log = [0u8; LOG_ROOM];
     let mut pile = [0u8; PILE_ROOM];
     let mut sand = [0u8; SAND_ROOM];

@@ -15,7 +15,7 @@ use given::{next_byte, next_wide, wide};
 use packs::{pack_log, pack_pile, pack_row, pack_slice};
 use reads::{read_log, read_pile, read_row, read_rows, read_slice};
 use show::end_line;
-use std::io::{self, BufReader, Read};
+use std::io::{self, Read};
 
 const CASES: usize = 100000;
 
@@ -78,7 +78,7 @@ fn next_case(rt: &impl Print, input: &mut impl Read, kind: u8) -> io::Result<()>
 }
 
 fn main(rt: HostRuntime) -> io::Result<()> {
-    let mut input = BufReader::new(rt.alloc(), rt.reader())?;
+    let mut input = rt.reader();
     for _ in 0..CASES {
         let kind = next_byte(&mut input)?;
         if kind == 0 {
