@@ -19,7 +19,7 @@ pub overflow_add-used : goal.overflow_add-used
 overflow_add-used c = omega (arith, place_left (goal.at.overflow_add-used c).In-loop-at)
 
 pub loop-at-preserved : goal.loop-at-preserved
-loop-at-preserved c = cutting_more _ _ _ c.loop-at.invariant _ _ _ c.loop-at-test.true c.next_slice-c.ensures c.weigh-sum.ensures c.put_slice.ensures c.put_slice.auto.table
+loop-at-preserved c = cutting_more _ _ _ c.loop-at.invariant _ _ _ c.loop-at-test.true c.next_slice-c.ensures (cc) c.put_slice.ensures c.put_slice.auto.table
 
 pub returns-clause-cut : goal.returns-clause-cut
 returns-clause-cut c =
