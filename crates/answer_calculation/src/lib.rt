@@ -12,8 +12,8 @@ use rules::{Answer, SandRecord};
 
 // The reply of a log, a pile record with its extra record, and a slice table of any length, and the table afterwards.
 pub fn calculate(log: &[u8], pile: &[u8], extra: SandRecord, table: &mut [u8]) -> Answer
-    ensures value { result ≡ calculated log.now pile.now extra table.old }
-    ensures table_after { table.new ≡ table_after log.now pile.now extra table.old }
+    ensures reply { result ≡ calculated log.now pile.now extra table.old }
+    ensures table { table.new ≡ table_after log.now pile.now extra table.old }
 {
     if lengths_wrong(log, pile, table) {
         return refused(refuse(1));

@@ -7,6 +7,7 @@ use norm_grades::{cut_depth, depth_read};
 use rules::{Pile, TIP_LIMIT};
 
 // The number of the first that refuses, or 0.
+#[tactic(auto, unfolding(crate::specs::Depths::depth_checks, rules::specs::Base::first, rules::specs::Base::when))]
 pub fn depth_refusal(pile: Pile, depth: u64) -> u32
     ensures { base.refuse result ≡ depth_checks depth pile }
 {

@@ -49,6 +49,7 @@ fn record_wrong(pile: Pile, brought: SandNumbers) -> bool
 }
 
 // By the extra record and the top of the tip's stratum: the number of the first that refuses, or 0.
+#[tactic(auto, unfolding(rules::proofs::Groups::late_in_sand, rules::specs::Base::first, rules::specs::Base::when))]
 pub fn sand_refusal(pile: Pile, brought: SandNumbers, top: u64) -> u32
     requires { (pile.head ≤ pile.tip) × (top ≤ pile.tip) }
     ensures { base.refuse result ≡ late_in_sand top pile (Given brought) }

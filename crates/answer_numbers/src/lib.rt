@@ -19,6 +19,7 @@ pub fn line_of(sum: u64) -> u64
 }
 
 // 3: R × area, in whole N.
+#[tactic(auto, using(crate::proofs::SideLaws::circle, crate::proofs::SideLaws::rectangle), unfolding(rules::specs::Numbers::tip_force))]
 fn tip_force(pile: Pile, r: u64) -> u64
     requires { Sides pile × (r ≤ resistance_bound) }
     ensures { (result ≡ tip_force pile r) × (result ≤ force_bound) }
@@ -32,6 +33,7 @@ fn tip_force(pile: Pile, r: u64) -> u64
 }
 
 // 4: line × perimeter, in whole N.
+#[tactic(auto, using(crate::proofs::SideLaws::circle, crate::proofs::SideLaws::rectangle), unfolding(rules::specs::Numbers::shaft_force))]
 fn shaft_force(pile: Pile, line: u64) -> u64
     requires { Sides pile × (line ≤ line_bound) }
     ensures { (result ≡ shaft_force pile line) × (result ≤ force_bound) }
@@ -45,6 +47,7 @@ fn shaft_force(pile: Pile, line: u64) -> u64
 }
 
 // 5, of tip and shaft together; a sand tip takes all.
+#[tactic(auto, unfolding(rules::specs::Numbers::capacity_of))]
 fn capacity(soil: Soil, n: u64) -> u64
     requires { n ≤ force_bound + force_bound }
     ensures { result ≡ capacity_of soil n }
@@ -59,6 +62,7 @@ fn capacity(soil: Soil, n: u64) -> u64
 }
 
 // 6, of the shaft.
+#[tactic(auto, unfolding(rules::specs::Numbers::uplift_of))]
 fn uplift(pile: Pile, n: u64) -> u64
     requires { (pile.head ≤ pile.tip) × (n ≤ force_bound) }
     ensures { result ≡ uplift_of pile n }
@@ -70,6 +74,7 @@ fn uplift(pile: Pile, n: u64) -> u64
 }
 
 // The five numbers.
+#[tactic(auto, unfolding(rules::specs::Answers::numbers))]
 pub fn five_numbers(soil: Soil, pile: Pile, r: u64, line: u64) -> Answer
     requires { Sides pile × (pile.head ≤ pile.tip) × (r ≤ resistance_bound) × (line ≤ line_bound) }
     ensures { result ≡ answers.numbers soil pile r line }

@@ -1,9 +1,9 @@
 -- The work on a tip, check by check: the first check that refuses decides, and past them all R stands.
 use mathlib.Core.Path.{◌≡◌, refl, sym, ◌∙◌, ap}
-use mathlib.Core.Bool.{Bool, true, false}
+use mathlib.Core.Bool.{true, false}
 use Prim.Native.Nat.{ℕ, ◌<◌, ◌≤◌}
 use native.Mathlib.Omega.{arith}
-use lib.Dec.{ltb, eqb}
+use lib.Dec.{eqb}
 use borrow.Author.Tests.{lt-ltb, le-ltb, leb-true, eqb-false}
 use Rattle.rules.specs.declared.Soil.{Soil}
 use Rattle.rules.specs.declared.Pile.{Pile}
@@ -11,14 +11,14 @@ use Rattle.rules.specs.declared.SandNumbers.{SandNumbers}
 use Rattle.rules.specs.declared.SandRecord.{SandRecord}
 use Rattle.rules.specs.declared.SandRecord.TheVariants.{Absent, Given}
 use Rattle.rules.specs.declared.TipRead.{TipRead}
-use Rattle.rules.specs.Base.{pick, either, refuse, refuses, when, first}
+use Rattle.rules.specs.Base.{either, refuse, refuses, when, first}
 use Rattle.rules.specs.Bounds.{resistance_bound}
 use Rattle.rules.specs.SandTips.{sand_resistance}
 use Rattle.rules.specs.Numbers.{sand, tip_of, tip_from_cut, tip_read, pascals, resistance}
 use Rattle.rules.specs.Checks.{absent, method_wrong, wrong_pile_field, section_check, seat_short, record_wrong}
 use Rattle.rules.specs.Ranges.{PileInRange}
 use Rattle.rules.proofs.Groups.{pile_checks, late, late_in_sand, late_in_clay, late_in_sand_lem, late_in_clay_lem}
-use Rattle.rules.proofs.RefusalLaws.{first_off, when_off, either_right}
+use Rattle.rules.proofs.RefusalLaws.{first_off, when_off}
 use Rattle.rules.proofs.InRangeLaws.{pile_in_range}
 use Rattle.rules.proofs.TipLaws.{ranges}
 use Rattle.norm_sand_tips.specs.Terms.{Weighs}

@@ -31,8 +31,8 @@ pub struct Worked {
 
 // A refusal by 5 to 12 or 17: no number, and no slice in the table.
 fn no_work(table: &mut [u8], refusal: Refusal) -> Worked
-    ensures answer_value { (result.answer ≡ answers.refused refusal) × (result.used ≡ 0) }
-    ensures table_after { table.new ≡ replicate (length table.old) 0 }
+    ensures worked { (result.answer ≡ answers.refused refusal) × (result.used ≡ 0) }
+    ensures table { table.new ≡ replicate (length table.old) 0 }
 {
     clear_table(table);
     let answer = refused(refusal);
@@ -45,8 +45,8 @@ fn no_work(table: &mut [u8], refusal: Refusal) -> Worked
 // A pile that passes checks 5 to 8. Its shaft is cut before its tip is looked at: the cut tells the soil below the tip and its stratum.
 fn work_pile(log: &[u8], pile: Pile, extra: SandRecord, table: &mut [u8]) -> Worked
     requires { Passed log.now × (base.refuses (early (depth_of (rows_of log.now)) pile) ≡ false) × (table_size (limit_of log.now) ≤ length table.old) }
-    ensures answer_value { (result.answer ≡ answer_of (rows_of log.now) pile extra) × (result.used ≡ length (held_slices_of (rows_of log.now) pile extra)) }
-    ensures table_after { table.new ≡ table_bytes (length table.old) (held_slices_of (rows_of log.now) pile extra) }
+    ensures worked { (result.answer ≡ answer_of (rows_of log.now) pile extra) × (result.used ≡ length (held_slices_of (rows_of log.now) pile extra)) }
+    ensures table { table.new ≡ table_bytes (length table.old) (held_slices_of (rows_of log.now) pile extra) }
 {
     let cut = ground_shaft::cut_shaft(log, pile, table);
     let soil = cut.soil;
@@ -65,8 +65,8 @@ fn work_pile(log: &[u8], pile: Pile, extra: SandRecord, table: &mut [u8]) -> Wor
 // The answer and the table of a log past its checks, whose rows are this deep, a pile record and its extra record; the table has the places of the log's form.
 pub fn work_out(log: &[u8], depth: u64, pile: &[u8], extra: SandRecord, table: &mut [u8]) -> Worked
     requires { Passed log.now × (depth ≡ depth_of (rows_of log.now)) × (table_size (limit_of log.now) ≤ length table.old) }
-    ensures answer_value { (result.answer ≡ fresh_answer log.now pile.now extra) × (result.used ≡ length (held_slices_of (rows_of log.now) (pile_of pile.now) extra)) }
-    ensures table_after { table.new ≡ table_bytes (length table.old) (held_slices_of (rows_of log.now) (pile_of pile.now) extra) }
+    ensures worked { (result.answer ≡ fresh_answer log.now pile.now extra) × (result.used ≡ length (held_slices_of (rows_of log.now) (pile_of pile.now) extra)) }
+    ensures table { table.new ≡ table_bytes (length table.old) (held_slices_of (rows_of log.now) (pile_of pile.now) extra) }
 {
     let p = take_pile(pile);
     let own = pile_refusal(p);

@@ -19,6 +19,7 @@ pub fn refuse(n: u32) -> Refusal
 }
 
 // a, or b where a refuses nothing.
+#[tactic(auto, unfolding(rules::specs::Base::first))]
 pub fn first(a: Refusal, b: Refusal) -> Refusal
     ensures { result ≡ base.first a b }
 {

@@ -38,8 +38,8 @@ fn part(thickness: u16, r: Row) -> Row
 }
 
 fn split(log: &mut [u8], k: u32, x: u32)
-    requires le_k { (1 ≤ k) × (k ≤ count_of log.old) × (1 + (count_of log.old + 1) * row_size ≤ length log.old) }
-    requires log_bound { (count_of log.old < 255) × (x < (row_named (rows_of log.old) k).thickness) × (x ≤ thickness_limit) }
+    requires place { (1 ≤ k) × (k ≤ count_of log.old) × (1 + (count_of log.old + 1) * row_size ≤ length log.old) }
+    requires point { (count_of log.old < 255) × (x < (row_named (rows_of log.old) k).thickness) × (x ≤ thickness_limit) }
     ensures { log.new ≡ split_log k x log.old }
 {
     let row = edit_naming::named_row(log, k);
@@ -51,7 +51,7 @@ fn split(log: &mut [u8], k: u32, x: u32)
 // Replace, insert, remove or split.
 pub fn change(log: &mut [u8], kind: u32, k: u32, x: u32, row: &[u8])
     requires passed { Passed log.old × (refuses (change_checks (asked kind k x row.now) log.old) ≡ false) }
-    requires row_len { brings kind ≡ true → length row.now ≡ row_size }
+    requires brought { brings kind ≡ true → length row.now ≡ row_size }
     ensures { log.new ≡ edited_log (asked kind k x row.now) log.old }
 {
     match kind {

@@ -41,6 +41,7 @@ fn lengths_wrong(log: &[u8], pile: &[u8], table: &[u8], kind: u32, row: &[u8]) -
 }
 
 // Check 3 of the row that replace and insert bring.
+#[tactic(auto, unfolding(rules::specs::Checks::new_row_check))]
 fn new_row_refusal(kind: u32, k: u32, row: &[u8]) -> Refusal
     ensures { result ≡ checks.new_row_check (asked kind k 0 row.now) }
 {
@@ -60,8 +61,8 @@ fn new_row_refusal(kind: u32, k: u32, row: &[u8]) -> Refusal
 
 // The thickness that goes.
 fn gone(log: &[u8], kind: u32, k: u32) -> u64
-    requires row_size_in_bounds { 1 + count_of log.now * row_size ≤ length log.now }
-    requires le_k { (kind ≡ 1) ⊎ (kind ≡ 3) → (1 ≤ k) × (k ≤ count_of log.now) }
+    requires inside { 1 + count_of log.now * row_size ≤ length log.now }
+    requires named { (kind ≡ 1) ⊎ (kind ≡ 3) → (1 ≤ k) × (k ≤ count_of log.now) }
     ensures { result ≡ goes kind k (rows_of log.now) }
 {
     match kind {

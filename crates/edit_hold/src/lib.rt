@@ -14,8 +14,8 @@ use rules::{Answer, SandRecord};
 // The changed log, this deep, is worked out into the table. The table is written in place, so kept is counted against a copy of it.
 pub fn hold(log: &[u8], depth: u64, pile: &[u8], extra: SandRecord, table: &mut [u8]) -> Answer
     requires { Passed log.now × (depth ≡ depth_of (rows_of log.now)) × (length table.old ≡ table_size (limit_of log.now)) }
-    ensures value { result ≡ edit_answer log.now pile.now extra table.old }
-    ensures table_after { table.new ≡ fresh_table log.now pile.now extra }
+    ensures reply { result ≡ edit_answer log.now pile.now extra table.old }
+    ensures table { table.new ≡ fresh_table log.now pile.now extra }
 {
     let old = edit_kept::table_copy(table);
     let work = answer_work::work_out(log, depth, pile, extra, table);

@@ -11,21 +11,22 @@ use base_copies::copy_in;
 use rules::ROW_SIZE;
 
 fn raise_count(log: &mut [u8])
-    requires in_bounds { 1 ≤ length log.old }
-    requires log_bound { count_of log.old < 255 }
+    requires count { 1 ≤ length log.old }
+    requires room { count_of log.old < 255 }
     ensures { log.new ≡ with_count (count_of log.old + 1) log.old }
 {
     log[0] += 1;
 }
 
 fn lower_count(log: &mut [u8])
-    requires in_bounds { 1 ≤ length log.old }
-    requires bound { 1 ≤ count_of log.old }
+    requires count { 1 ≤ length log.old }
+    requires rows { 1 ≤ count_of log.old }
     ensures { log.new ≡ with_count (count_of log.old - 1) log.old }
 {
     log[0] -= 1;
 }
 
+#[tactic(auto, using(crate::proofs::PartLaws::row_put))]
 pub fn replace_row(log: &mut [u8], k: usize, row: [u8; ROW_SIZE])
     requires { (1 ≤ k) × (1 + k * row_size ≤ length log.old) }
     ensures { log.new ≡ replaced_log (k - 1) row log.old }
@@ -35,8 +36,8 @@ pub fn replace_row(log: &mut [u8], k: usize, row: [u8; ROW_SIZE])
 }
 
 pub fn insert_row(log: &mut [u8], k: usize, row: [u8; ROW_SIZE])
-    requires le_k { (1 ≤ k) × (1 + k * row_size ≤ length log.old) }
-    requires log_bound { count_of log.old < 255 }
+    requires place { (1 ≤ k) × (1 + k * row_size ≤ length log.old) }
+    requires room { count_of log.old < 255 }
     ensures { log.new ≡ inserted_log (k - 1) row log.old }
 {
     raise_count(log);
@@ -45,8 +46,8 @@ pub fn insert_row(log: &mut [u8], k: usize, row: [u8; ROW_SIZE])
 }
 
 pub fn remove_row(log: &mut [u8], k: usize)
-    requires le_k { (1 ≤ k) × (1 + k * row_size ≤ length log.old) }
-    requires bound { 1 ≤ count_of log.old }
+    requires place { (1 ≤ k) × (1 + k * row_size ≤ length log.old) }
+    requires rows { 1 ≤ count_of log.old }
     ensures { log.new ≡ removed_log (k - 1) log.old }
 {
     lower_count(log);
@@ -56,8 +57,8 @@ pub fn remove_row(log: &mut [u8], k: usize)
 
 // Row k gives way to its two parts.
 pub fn split_row(log: &mut [u8], k: usize, upper: [u8; ROW_SIZE], lower: [u8; ROW_SIZE])
-    requires le_k { (1 ≤ k) × (1 + (k + 1) * row_size ≤ length log.old) }
-    requires log_bound { count_of log.old < 255 }
+    requires place { (1 ≤ k) × (1 + (k + 1) * row_size ≤ length log.old) }
+    requires room { count_of log.old < 255 }
     ensures { log.new ≡ divided_log (k - 1) upper lower log.old }
 {
     raise_count(log);

@@ -25,6 +25,7 @@ fn one_of(n: u32, k: u32) -> bool
     true
 }
 
+#[tactic(auto, using(rules::proofs::PassedLaws::count_length))]
 fn count_of(log: &[u8]) -> u32
     requires { 1 ≤ length log.now }
     ensures { (result ≡ length (rows_of log.now)) × (result < 256) }
@@ -33,6 +34,7 @@ fn count_of(log: &[u8]) -> u32
 }
 
 // Row k of the log.
+#[tactic(auto, using(crate::proofs::NamingLaws::row_there))]
 pub fn named_row(log: &[u8], k: u32) -> Row
     requires { (1 ≤ k) × (k ≤ count_of log.now) × (1 + count_of log.now * row_size ≤ length log.now) }
     ensures { result ≡ rule.row_named (rows_of log.now) k }
@@ -41,6 +43,7 @@ pub fn named_row(log: &[u8], k: u32) -> Row
     record_rows::row_inside(log, at)
 }
 
+#[tactic(auto, using(crate::proofs::NamingLaws::named_in), unfolding(rules::specs::Edits::stands))]
 fn split_stands(log: &[u8], n: u32, k: u32, x: u32) -> bool
     requires { (n ≡ length (rows_of log.now)) × (1 + count_of log.now * row_size ≤ length log.now) }
     ensures { result ≡ rule.stands (rule.asked 4 k x []) (rows_of log.now) }
@@ -56,6 +59,7 @@ fn split_stands(log: &[u8], n: u32, k: u32, x: u32) -> bool
 }
 
 // Check 13 the other way round: the edit is one of the four, and names a row and a split point that are there.
+#[tactic(auto, unfolding(rules::specs::Edits::stands))]
 pub fn stands(log: &[u8], kind: u32, k: u32, x: u32) -> bool
     requires { 1 + count_of log.now * row_size ≤ length log.now }
     ensures { result ≡ rule.stands (rule.asked kind k x []) (rows_of log.now) }
@@ -93,6 +97,7 @@ fn grows(kind: u32) -> bool
 }
 
 // Check 14.
+#[tactic(auto, using(crate::proofs::NamingLaws::on_full))]
 pub fn full(log: &[u8], kind: u32) -> bool
     requires { 1 ≤ length log.now }
     ensures { result ≡ checks.full kind (limit_of log.now) (length (rows_of log.now)) }

@@ -18,9 +18,9 @@ pub fn edit(
     x: u32,
     row: &[u8],
 ) -> Answer
-    ensures value { result ≡ edit_reply (asked kind k x row.now) log.old pile.now extra table.old }
-    ensures log_after { log.new ≡ edit_log (asked kind k x row.now) log.old pile.now table.old }
-    ensures table_after { table.new ≡ edit_table (asked kind k x row.now) log.old pile.now extra table.old }
+    ensures reply { result ≡ edit_reply (asked kind k x row.now) log.old pile.now extra table.old }
+    ensures log { log.new ≡ edit_log (asked kind k x row.now) log.old pile.now table.old }
+    ensures table { table.new ≡ edit_table (asked kind k x row.now) log.old pile.now extra table.old }
 {
     let checked = edit_checks::check_edit(log, pile, table, kind, k, x, row);
     let refusal = checked.refusal;

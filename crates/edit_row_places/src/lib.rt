@@ -53,6 +53,7 @@ pub fn insert_first(t: &mut [u8], row: [u8; ROW_SIZE])
 }
 
 // The row in the first place of t gives way to its two parts.
+#[tactic(auto, using(crate::proofs::PlaceLaws::divided_is))]
 pub fn split_first(t: &mut [u8], upper: [u8; ROW_SIZE], lower: [u8; ROW_SIZE])
     requires { 2 * row_size ≤ length t.old }
     ensures { t.new ≡ divided upper lower t.old }

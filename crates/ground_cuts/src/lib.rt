@@ -69,8 +69,8 @@ pub fn cut_part(
     end: u64,
 ) -> Cut
     requires { (kpa.now ≡ friction_rows) × (lowering pile.grade ≤ from) × (end < 2 ^ 16) × ((place + length (slices_in pile soil from end)) * slice_size ≤ length table.old) }
-    ensures value { (result ≡ record { used = place + length (slices_in pile soil from end); sum = friction_sum (slices_in pile soil from end) }) × (result.sum ≤ weight_bound * (end - from)) }
-    ensures table_after { table.new ≡ put_all table.old place (slices_in pile soil from end) }
+    ensures cut { (result ≡ record { used = place + length (slices_in pile soil from end); sum = friction_sum (slices_in pile soil from end) }) × (result.sum ≤ weight_bound * (end - from)) }
+    ensures table { table.new ≡ put_all table.old place (slices_in pile soil from end) }
 {
     let column = norm_friction::column_of(soil);
     let factor = norm_factors::factor(pile.method, soil.kind);

@@ -28,8 +28,8 @@ pub struct Shaft {
 // The cut along the rows of the log, with table 7.3 lent. A table has places for every shaft, so nothing counts them.
 fn cut_along(kpa: &[[u8; 9]; 13], log: &[u8], pile: Pile, table: &mut [u8]) -> Shaft
     requires { (kpa.now ≡ friction_rows) × Ready log.now pile (length table.old) }
-    ensures value { (result ≡ shaft_of (rows_of log.now) pile) × (result.sum ≤ sum_bound) }
-    ensures table_after { table.new ≡ table_bytes (length table.old) (cut_of (rows_of log.now) pile) }
+    ensures shaft { (result ≡ shaft_of (rows_of log.now) pile) × (result.sum ≤ sum_bound) }
+    ensures table { table.new ≡ table_bytes (length table.old) (cut_of (rows_of log.now) pile) }
 {
     clear_table(table);
     let head = pile.head as u64;
@@ -66,8 +66,8 @@ fn cut_along(kpa: &[[u8; 9]; 13], log: &[u8], pile: Pile, table: &mut [u8]) -> S
 // The part of each stratum between head and tip, cut from its top.
 pub fn cut_shaft(log: &[u8], pile: Pile, table: &mut [u8]) -> Shaft
     requires { Ready log.now pile (length table.old) }
-    ensures value { (result ≡ shaft_of (rows_of log.now) pile) × (result.sum ≤ sum_bound) }
-    ensures table_after { table.new ≡ table_bytes (length table.old) (cut_of (rows_of log.now) pile) }
+    ensures shaft { (result ≡ shaft_of (rows_of log.now) pile) × (result.sum ≤ sum_bound) }
+    ensures table { table.new ≡ table_bytes (length table.old) (cut_of (rows_of log.now) pile) }
 {
     let kpa = norm_friction::rows();
     cut_along(&kpa, log, pile, table)

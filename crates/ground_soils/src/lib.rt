@@ -16,6 +16,7 @@ pub fn soil_of(r: Row) -> Soil
     }
 }
 
+#[tactic(auto, unfolding(rules::specs::Ground::same))]
 pub fn same_soil(s: Soil, t: Soil) -> bool
     ensures { result ≡ same s t }
 {

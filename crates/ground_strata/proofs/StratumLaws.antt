@@ -5,7 +5,7 @@ use mathlib.Core.Logic.{⊎_elim}
 use mathlib.Core.List.{List}
 use Prim.Native.Nat.{ℕ, ◌+◌, ◌*◌, ◌-◌, ◌<◌, ◌≤◌}
 use native.Mathlib.Omega.{arith}
-use lib.ListN.{take}
+use lib.ListN.{length, take}
 use Rattle.rules.specs.declared.Row.{Row}
 use Rattle.rules.specs.declared.Soil.{Soil}
 use Rattle.rules.specs.Records.{row_size}
@@ -46,6 +46,10 @@ module _ {log : List ℕ} (p : Passed log) {first top tip : ℕ} (b : Begins log
   pub first_there : first < count_of log
   first_there = row_there log first tip (omega (arith, b.top_is, b.high)) b.deep
 
+  -- its bytes lie in the log
+  pub first_fits : 1 + first * row_size + row_size ≤ length log
+  first_fits = let k = known log p in omega (arith, first_there)
+
   -- the first row
   pub open_one : (r : Row) (s : Soil) → r ≡ row_at log (1 + first * row_size) → s ≡ soil_of r → Open log first top tip (first + 1) (top + r.thickness) s
   open_one r s w q =
@@ -66,6 +70,9 @@ module _ {log : List ℕ} (p : Passed log) {first top tip : ℕ} (b : Begins log
     -- the row below the stratum
     pub next_there : bottom ≤ tip → next < count_of log
     next_there h = row_there log next tip (omega (arith, o.bottom_is)) b.deep
+
+    pub next_fits : bottom ≤ tip → 1 + next * row_size + row_size ≤ length log
+    next_fits h = let k = known log p in omega (arith, next_there h)
 
     module _ (h : bottom ≤ tip) (r : Row) (e : r ≡ row_at log (1 + next * row_size)) where
       below : Next (rows_of log) next r

@@ -38,6 +38,7 @@ pub fn column_for(q: u64, c: u64) -> Column
 }
 
 // Two numbers weighed: b by a part of the whole, a by the rest of it.
+#[tactic(auto, using(crate::proofs::Means::mean_max))]
 pub fn mean(whole: u64, part: u64, a: u64, b: u64) -> u64
     requires { (part ≤ whole) × (whole ≤ 20000) × (a ≤ weighed_bound) × (b ≤ weighed_bound) }
     ensures { (result ≡ (whole - part) * a + part * b) × (result ≤ whole * max a b) }

@@ -6,6 +6,7 @@ ghost use Rattle.rules.specs.Bounds.{factor_bound};
 ghost use Rattle.rules.specs.Numbers as numbers;
 
 // In tenths.
+#[tactic(auto, unfolding(rules::specs::Numbers::factor))]
 pub fn factor(method: u8, kind: u8) -> u8
     ensures { (result ≡ numbers.factor method kind) × (6 ≤ result) × (result ≤ factor_bound) }
 {

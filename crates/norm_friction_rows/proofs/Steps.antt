@@ -83,7 +83,19 @@ stretch low high w more share mid r l h e all f t first last even whole =
     let parts : share * (s * metre) ≡ 20000 = ap (λ (x : ℕ). share * x) (sym apart-is) ∙ whole in
     stands mid (k / s * s) (k / s * s + s) share r (omega arith) (omega arith) (rw i (row_is_lem _ _ _ k u)) (rw apart parts) (e ∙ ap (λ (x : ℕ). x * share) left) all
 
--- above the first row and below the last
+-- in each of the three stretches; above the first row and below the last, that row alone
+pub by_five_metres : (mid : ℕ) → 20000 ≤ mid → mid < 70000 → Stands mid (record { row = mid / 10000 + 5; part = mid % 10000 * 2; whole = 20000 })
+unfolding row_for
+by_five_metres mid h l = stretch 20000 70000 10000 6 2 mid _ h l refl refl (omega arith) tt (omega arith) (omega arith) refl refl
+
+pub by_two_metres : (mid : ℕ) → 12000 ≤ mid → mid < 20000 → Stands mid (record { row = mid / 4000 + 2; part = mid % 4000 * 5; whole = 20000 })
+unfolding row_for
+by_two_metres mid h l = stretch 12000 20000 4000 3 5 mid _ h l refl refl (omega arith) tt (omega arith) (omega arith) refl refl
+
+pub by_one_metre : (mid row : ℕ) → 2000 ≤ mid → mid < 12000 → row ≡ mid / 2000 - 1 → Stands mid (record { row = row; part = mid % 2000 * 10; whole = 20000 })
+unfolding row_for
+by_one_metre mid row h l e = stretch 2000 12000 2000 0 10 mid _ h l refl refl (omega arith) tt (omega arith) (omega arith) refl refl
+
 pub above_all : (mid : ℕ) → mid < metre → Stands mid (record { row = 0; part = 0; whole = mid * 10 })
 unfolding spot_of row_for
 above_all mid h = let e : max metre (min mid 70000) ≡ metre = omega arith in record { row = rw e refl; part = rw e refl; whole = omega arith; last = omega arith; within = omega arith }

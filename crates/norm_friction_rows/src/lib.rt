@@ -14,6 +14,7 @@ pub struct Standing {
 // In table 7.3, in half millimetres. Its rows stand 1 m apart from 1 m on, 2 m apart from 6 m on and 5 m apart from 10 m to 35 m, each at
 // a whole number of such steps: the steps down to a depth tell its row, what is left over its part of the way. "above 1 m depth the 1 m
 // row, below 35 m the 35 m row". All of a reading counts from 1 m on, and above 1 m as much as the mid-depth has of 1 m.
+#[tactic(auto, using(crate::proofs::Steps::above_all, crate::proofs::Steps::by_one_metre, crate::proofs::Steps::by_two_metres, crate::proofs::Steps::by_five_metres, crate::proofs::Steps::below_all))]
 pub fn friction_row(mid: u64) -> Standing
     ensures { Stands mid result }
 {

@@ -11,6 +11,7 @@ use rules::FREE_GRADE;
 const NEGATIVE: u16 = 32768;
 
 // How deep the site is cut; 0 where it is not.
+#[tactic(auto, unfolding(rules::specs::Grades::cut_depth))]
 pub fn cut_depth(grade: u16) -> u64
     ensures { (result ≡ rule.cut_depth grade) × (result ≤ 2 ^ 15) }
 {
@@ -21,6 +22,7 @@ pub fn cut_depth(grade: u16) -> u64
 }
 
 // How high it is filled; 0 where it is not.
+#[tactic(auto, unfolding(rules::specs::Grades::fill_height))]
 fn fill_height(grade: u16) -> u64
     ensures { (result ≡ rule.fill_height grade) × (result ≤ 2 ^ 15) }
 {

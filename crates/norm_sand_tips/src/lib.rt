@@ -13,6 +13,7 @@ use norm_sand_caps::sand_cap;
 use rules::SandNumbers;
 
 // α1 γ'1 d in whole Pa, of ten-thousandths, N/m³ and mm.
+#[tactic(auto, unfolding(rules::specs::SandTips::width_term))]
 fn width_term(a: u64, weight: u64, d: u64) -> u64
     requires { (a ≤ cell_bound * 1000) × (weight ≤ unit_weight_bound) × (d ≤ diameter_bound) }
     ensures { (result ≡ rule.width_term a weight d) × (result ≤ width_bound) }
@@ -29,6 +30,7 @@ fn overburden(weight: u64, h: u64) -> u64
 }
 
 // α2 α3 γ1 h in whole Pa, of ten-thousandths twice and Pa.
+#[tactic(auto, unfolding(rules::specs::SandTips::depth_term))]
 fn depth_term(a: u64, b: u64, p: u64) -> u64
     requires { (a ≤ cell_bound * 1000) × (b ≤ cell_bound * 100) × (p ≤ overburden_bound) }
     ensures { (result ≡ rule.depth_term a b p) × (result ≤ depth_bound) }
@@ -57,6 +59,7 @@ fn formula(base: SandNumbers, h: u64, d: u64) -> u64
 }
 
 // R for a kind of sand, at most the cap at this depth as read.
+#[tactic(auto, unfolding(rules::specs::SandTips::sand_resistance))]
 pub fn sand_resistance(base: SandNumbers, h: u64, d: u64, kind: u8, depth: u64) -> u64
     requires { Weighs base × (h ≤ height_bound) × (0 < d) × (d ≤ diameter_bound) × (kind ≤ 3) }
     ensures { (result ≡ rule.sand_resistance base h d kind depth) × (result ≤ resistance_bound) }

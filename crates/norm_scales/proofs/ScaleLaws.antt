@@ -6,12 +6,11 @@ use native.Mathlib.Nat.{mul-le-mul}
 use native.Mathlib.Omega.{arith}
 use lib.Dec.{T, ltb, leb, leb→le}
 use lib.ListN.{length, get_or}
-use Rattle.rules.specs.declared.Spot.{Spot}
 use Rattle.rules.specs.declared.OnScale.{OnScale}
 use Rattle.rules.specs.Tables.{row_for, spot_of}
 use Rattle.rules.specs.SandTips.{angles, ratios, diameters, cap_depths, on_scale}
 use Rattle.rules.proofs.TableLaws.{every, at}
-use Rattle.norm_spots.specs.Spots.{span_bound, Deepens, Clamped, Between, InTable}
+use Rattle.norm_spots.specs.Spots.{Deepens, Clamped, Between, InTable}
 use Rattle.norm_spots.proofs.Rows.{deepens, by_metre, found, in_table}
 use Rattle.norm_scales.specs.declared.Step.{Step}
 use Rattle.norm_scales.specs.Scales.{diameter_bound, step_of, Marked}

@@ -6,15 +6,14 @@ ghost use Rattle.std.specs.Prelude.{◌≤◌};
 
 use norm_alphas::{alpha_1, alpha_2, alpha_3, alpha_4};
 use norm_sand_caps::sand_cap;
+use std::io;
 
-fn say(n: u64) {
-    io::print_decimal(1, n);
-    io::write_all(1, b" ");
+fn say(rt: &impl Print, n: u64) -> io::Result<()> {
+    print!(rt; "{n} ")
 }
 
-fn say_last(n: u64) {
-    io::print_decimal(1, n);
-    io::write_all(1, b"\n");
+fn say_last(rt: &impl Print, n: u64) -> io::Result<()> {
+    println!(rt; "{n}")
 }
 
 // A coefficient by its number, at a reduced angle: α3 of a tip so deep and a diameter of 1,000, α4 of such a diameter.
@@ -33,69 +32,66 @@ fn coefficient(number: u64, mark: u64, t: u64) -> u64
     alpha_4(t, mark)
 }
 
-fn cell(number: u64, mark: u64, t: u64)
+fn cell(rt: &impl Print, number: u64, mark: u64, t: u64) -> io::Result<()>
     requires { mark ≤ 40000 }
 {
-    say(number);
+    say(rt, number)?;
     if mark != 0 {
-        say(mark);
+        say(rt, mark)?;
     }
-    say(t);
-    say_last(coefficient(number, mark, t));
+    say(rt, t)?;
+    say_last(rt, coefficient(number, mark, t))
 }
 
 // Angles stand every two degrees from 23 to 39. α1 and α2 have no other mark.
-fn line(number: u64, mark: u64)
+fn line(rt: &impl Print, number: u64, mark: u64) -> io::Result<()>
     requires { mark ≤ 40000 }
 {
-    let mut t: u64 = 23000;
-    while t < 40000 {
-        cell(number, mark, t);
-        t += 2000;
+    for i in 0..9 {
+        cell(rt, number, mark, 23000 + i * 2000)?;
     }
+    Ok(())
 }
 
 // h/d of 4, then from 5 to 25 by two and a half.
-fn third_lines() {
-    line(3, 4000);
-    let mut h: u64 = 5000;
-    while h <= 25000 {
-        line(3, h);
-        h += 2500;
+fn third_lines(rt: &impl Print) -> io::Result<()> {
+    line(rt, 3, 4000)?;
+    for i in 0..9 {
+        line(rt, 3, 5000 + i * 2500)?;
     }
+    Ok(())
 }
 
-fn cap(kind: u8, depth: u64)
+fn cap(rt: &impl Print, kind: u8, depth: u64) -> io::Result<()>
     requires { kind ≤ 3 }
 {
-    say(7);
-    say(kind as u64);
-    say(depth);
-    say_last(sand_cap(kind, depth));
+    say(rt, 7)?;
+    say(rt, kind as u64)?;
+    say(rt, depth)?;
+    say_last(rt, sand_cap(kind, depth))
 }
 
 // At 3, 4, 5 and 7 m, then from 10 to 35 m by five.
-fn column(kind: u8)
+fn column(rt: &impl Print, kind: u8) -> io::Result<()>
     requires { kind ≤ 3 }
 {
-    cap(kind, 3000);
-    cap(kind, 4000);
-    cap(kind, 5000);
-    cap(kind, 7000);
-    let mut depth: u64 = 10000;
-    while depth <= 35000 {
-        cap(kind, depth);
-        depth += 5000;
+    cap(rt, kind, 3000)?;
+    cap(rt, kind, 4000)?;
+    cap(rt, kind, 5000)?;
+    cap(rt, kind, 7000)?;
+    for i in 0..6 {
+        cap(rt, kind, 10000 + i * 5000)?;
     }
+    Ok(())
 }
 
-fn main() {
-    line(1, 0);
-    line(2, 0);
-    third_lines();
-    line(4, 800);
-    line(4, 4000);
-    column(1);
-    column(2);
-    column(3);
+fn main(rt: HostRuntime) -> io::Result<()> {
+    line(&rt, 1, 0)?;
+    line(&rt, 2, 0)?;
+    third_lines(&rt)?;
+    line(&rt, 4, 800)?;
+    line(&rt, 4, 4000)?;
+    column(&rt, 1)?;
+    column(&rt, 2)?;
+    column(&rt, 3)
 }

@@ -9,6 +9,7 @@ use base_order::{larger, smaller};
 use rules::Spot;
 
 // The row of table 7.8 in which a whole metre stands, of the nine that have one below.
+#[tactic(auto, unfolding(rules::specs::Tables::row_for))]
 fn tip_row(metre: u64) -> u64
     requires { (3 ≤ metre) × (metre ≤ 40) }
     ensures { result ≡ row_for tip_depths 1 8 0 metre }

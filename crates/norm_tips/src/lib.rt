@@ -70,6 +70,7 @@ fn on_dash(u: u64, v: u64, c: Cell) -> bool
     }
 }
 
+#[tactic(auto, unfolding(crate::specs::Cells::dash_of))]
 fn any_dash(p: Spot, a: Cell, b: Cell, c: Cell, d: Cell) -> bool
     requires { Weights p }
     ensures { result ≡ dash_of p a b c d }

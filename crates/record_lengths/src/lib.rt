@@ -38,6 +38,7 @@ pub fn pile_length_wrong(pile: &[u8]) -> bool
 }
 
 // Check 1 of a calculation: the log has a form, the pile record one of its lengths, and the table goes with the log.
+#[tactic(auto, unfolding(rules::specs::Limits::limit_of))]
 pub fn lengths_wrong(log: &[u8], pile: &[u8], table: &[u8]) -> bool
     ensures { result ≡ lengths_wrong log.now pile.now table.now }
 {

@@ -56,6 +56,7 @@ fn read_rows(s: &[u8]) -> LogRead
     }
 }
 
+#[tactic(auto, using(crate::proofs::ReadLaws::read_formless, crate::proofs::ReadLaws::read_unused, crate::proofs::ReadLaws::read_rows, record_unused::proofs::CountLaws::form))]
 pub fn read_log(s: &[u8]) -> LogRead
     ensures { result ≡ read_log s.now }
 {

@@ -30,6 +30,7 @@ fn b_in_range(p: Pile) -> bool
 }
 
 // The first of section kind, a, b and the zero bits that is wrong, 0 where none is.
+#[tactic(auto, unfolding(rules::specs::Checks::wrong_pile_field))]
 fn wrong_pile_field(p: Pile) -> u32
     ensures { result ≡ wrong_pile_field p }
 {
@@ -49,6 +50,7 @@ fn wrong_pile_field(p: Pile) -> u32
 }
 
 // Check 5.
+#[tactic(auto, unfolding(rules::specs::Checks::section_check))]
 fn section_refusal(p: Pile) -> Refusal
     ensures { result ≡ section_check p }
 {
@@ -64,6 +66,7 @@ fn section_refusal(p: Pile) -> Refusal
 }
 
 // Check 6.
+#[tactic(auto, unfolding(rules::specs::Base::when))]
 fn method_refusal(p: Pile) -> Refusal
     ensures { result ≡ when (method_wrong p) 6 }
 {
@@ -73,6 +76,7 @@ fn method_refusal(p: Pile) -> Refusal
     refuse(0)
 }
 
+#[tactic(auto, unfolding(rules::proofs::Groups::pile_checks))]
 pub fn pile_refusal(p: Pile) -> Refusal
     ensures { result ≡ pile_checks p }
 {

@@ -19,6 +19,7 @@ fn index_in_range(kind: u8, index: u8) -> bool
 }
 
 // Whether every field is 0, as in an unused place.
+#[tactic(auto, unfolding(rules::specs::Base::all_zero))]
 pub fn row_zero(r: Row) -> bool
     ensures { result ≡ row_zero r }
 {
@@ -38,6 +39,7 @@ pub fn row_zero(r: Row) -> bool
 }
 
 // The lowest field out of range, 0 where there is none.
+#[tactic(auto, unfolding(rules::specs::Checks::wrong_field))]
 pub fn row_field(r: Row) -> u32
     ensures { result ≡ wrong_field r }
 {
@@ -60,6 +62,7 @@ pub fn row_field(r: Row) -> u32
 }
 
 // Whether every field is in its range: one answer for the rows of a log, most of which are good.
+#[tactic(auto, unfolding(rules::specs::Checks::wrong_field))]
 pub fn row_good(row: Row) -> bool
     ensures { result ≡ eqb (wrong_field row) 0 }
 {

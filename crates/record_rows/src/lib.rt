@@ -48,6 +48,7 @@ pub fn no_row() -> Row
 }
 
 // The row that begins at byte i; what lies past the end reads as 0.
+#[tactic(auto, using(crate::proofs::RowLaws::row_past, crate::proofs::RowLaws::row_read))]
 pub fn read_row(s: &[u8], i: usize) -> Row
     ensures { result ≡ row_at s.now i }
 {
@@ -58,6 +59,7 @@ pub fn read_row(s: &[u8], i: usize) -> Row
 }
 
 // The same where all five bytes are inside: nothing asks where the slice ends.
+#[tactic(auto, using(crate::proofs::RowLaws::row_read))]
 pub fn row_inside(s: &[u8], i: usize) -> Row
     requires { i + row_size ≤ length s.now }
     ensures { result ≡ row_at s.now i }

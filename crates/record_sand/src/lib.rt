@@ -7,6 +7,7 @@ ghost use Rattle.rules.specs.SandTips.{sand_from};
 use rules::{SandFields, SandNumbers, SandRecord};
 
 // Absent where given is 0.
+#[tactic(auto, unfolding(rules::specs::SandTips::sand_from))]
 pub fn sand_given(fields: SandFields) -> SandRecord
     ensures { result ≡ sand_from fields }
 {

@@ -10,6 +10,7 @@ use record_slices::slice_bytes;
 use rules::{SLICE_SIZE, Slice};
 
 // Every byte becomes zero.
+#[tactic(auto, using(crate::proofs::TableLaws::clear_more, crate::proofs::TableLaws::clear_all))]
 pub fn clear_table(table: &mut [u8])
     ensures { table.new ≡ replicate (length table.old) 0 }
 {
@@ -21,6 +22,7 @@ pub fn clear_table(table: &mut [u8])
 }
 
 // A slice into its place of the table.
+#[tactic(auto, using(crate::proofs::TableLaws::put_is))]
 pub fn put_slice(table: &mut [u8], place: usize, c: Slice)
     requires { place * slice_size + slice_size ≤ length table.old }
     ensures { table.new ≡ put_at table.old place c }

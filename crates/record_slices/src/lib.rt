@@ -46,6 +46,7 @@ fn no_slice() -> Slice
 }
 
 // One place of a slice table, counted from 0; past the last: all zero.
+#[tactic(auto, using(crate::proofs::SliceLaws::slice_inside, crate::proofs::SliceLaws::slice_long, crate::proofs::SliceLaws::slice_past, crate::proofs::SliceLaws::slice_read))]
 pub fn read_slice(s: &[u8], place: u32) -> SliceRead
     ensures { result ≡ read_slice s.now place }
 {

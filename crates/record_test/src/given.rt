@@ -1,19 +1,21 @@
 // The bytes of a case, and what is made of them.
 ghost use Rattle.std.specs.Prelude.{◌<◌};
 
-use libc::STDIN_FILENO;
 use rules::{Log, Pile, ROW_LIMIT, Row, Slice};
+use std::io::{self, Read};
 
 // The next byte of standard input, 0 at its end.
-pub(crate) fn next_byte() -> u8 {
-    let mut s = [0u8; 1];
-    io::read_full(STDIN_FILENO, &mut s);
-    s[0]
+pub(crate) fn next_byte(input: &mut impl Read) -> io::Result<u8> {
+    match input.by_ref().bytes().next() {
+        Some(b) => b,
+        None => Ok(0),
+    }
 }
 
-pub(crate) fn next_wide() -> u16 {
-    let high = next_byte();
-    high as u16 * 256 + next_byte() as u16
+pub(crate) fn next_wide(input: &mut impl Read) -> io::Result<u16> {
+    let high = next_byte(input)?;
+    let low = next_byte(input)?;
+    Ok(high as u16 * 256 + low as u16)
 }
 
 // Byte i, 0 past the end.
@@ -51,11 +53,9 @@ pub(crate) fn log_given(s: &[u8]) -> Log {
         count: n,
         rows: [record_rows::no_row(); ROW_LIMIT],
     };
-    let mut i: usize = 0;
-    while i < ROW_LIMIT {
+    for i in 0..ROW_LIMIT {
         let row = row_given(s, 1 + i * 6);
         l.rows[i] = row;
-        i += 1;
     }
     l
 }

@@ -1,35 +1,37 @@
 // Cases that pack.
 use super::given::{log_given, pile_given, row_given, slice_given};
 use super::show::{bytes, number, refusal, word};
-use libc::STDOUT_FILENO;
 use rules::Refusal;
+use std::io;
 
-fn packed(r: Refusal, buf: &[u8]) {
-    refusal(r);
-    number(bytes(buf));
+fn packed(rt: &impl Print, r: Refusal, buf: &[u8]) -> io::Result<()> {
+    refusal(rt, r)?;
+    let sum = bytes(rt, buf)?;
+    number(rt, sum)
 }
 
-pub(crate) fn pack_log(given: &[u8], buf: &mut [u8]) {
-    io::write_all(STDOUT_FILENO, b"packlog");
+pub(crate) fn pack_log(rt: &impl Print, given: &[u8], buf: &mut [u8]) -> io::Result<()> {
+    print!(rt; "packlog")?;
     let r = record_packing::pack_log(log_given(given), buf);
-    packed(r, buf);
+    packed(rt, r, buf)
 }
 
-pub(crate) fn pack_pile(given: &[u8], buf: &mut [u8]) {
-    io::write_all(STDOUT_FILENO, b"packpile");
+pub(crate) fn pack_pile(rt: &impl Print, given: &[u8], buf: &mut [u8]) -> io::Result<()> {
+    print!(rt; "packpile")?;
     let r = record_pile_bytes::pack_pile(pile_given(given), buf);
-    packed(r, buf);
+    packed(rt, r, buf)
 }
 
-pub(crate) fn pack_slice(given: &[u8]) {
-    io::write_all(STDOUT_FILENO, b"packslice");
-    bytes(&record_slices::slice_bytes(slice_given(given)));
+pub(crate) fn pack_slice(rt: &impl Print, given: &[u8]) -> io::Result<()> {
+    print!(rt; "packslice")?;
+    bytes(rt, &record_slices::slice_bytes(slice_given(given)))?;
+    Ok(())
 }
 
 // Its bytes, and its wrong field.
-pub(crate) fn pack_row(given: &[u8]) {
-    io::write_all(STDOUT_FILENO, b"packrow");
+pub(crate) fn pack_row(rt: &impl Print, given: &[u8]) -> io::Result<()> {
+    print!(rt; "packrow")?;
     let r = row_given(given, 0);
-    bytes(&record_row_bytes::row_bytes(r));
-    word(record_row_ranges::row_field(r));
+    bytes(rt, &record_row_bytes::row_bytes(r))?;
+    word(rt, record_row_ranges::row_field(r))
 }

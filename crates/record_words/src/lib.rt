@@ -38,6 +38,7 @@ fn padded(s: &[u8]) -> [u8; WORD_SIZE]
 
 // Where all are inside, no byte asks where the slice ends. Thickness and soil are joined apart, so that a row's
 // thickness waits for no byte of its soil.
+#[tactic(auto, using(crate::proofs::NumberLaws::five_are))]
 pub fn whole_five(s: &[u8]) -> u64
     requires { row_size ≤ length s.now }
     ensures { result ≡ number_at s.now 0 row_size }
@@ -48,6 +49,7 @@ pub fn whole_five(s: &[u8]) -> u64
 }
 
 // The first five bytes of s, 0 past the end.
+#[tactic(auto, using(crate::proofs::PaddedLaws::padded_number))]
 pub fn five_of(s: &[u8]) -> u64
     ensures { result ≡ number_at s.now 0 row_size }
 {
@@ -58,6 +60,7 @@ pub fn five_of(s: &[u8]) -> u64
     whole_five(&b)
 }
 
+#[tactic(auto, using(crate::proofs::NumberLaws::eight_are))]
 fn whole_word(s: &[u8]) -> u64
     requires { word_size ≤ length s.now }
     ensures { result ≡ number_at s.now 0 word_size }
@@ -66,6 +69,7 @@ fn whole_word(s: &[u8]) -> u64
 }
 
 // The first eight bytes of s, 0 past the end.
+#[tactic(auto, using(crate::proofs::PaddedLaws::padded_number))]
 pub fn word_of(s: &[u8]) -> u64
     ensures { result ≡ number_at s.now 0 word_size }
 {

@@ -9,7 +9,7 @@
 // 40 + 33 * i after i slices, so the room that each line asks for is there: a whole sheet of 83 has at most 2,890 bytes.
 //
 // For the proof of such a loop, proofs/SheetLaws carries `Holds n buf at text`, that the n bytes are the text and zeros behind
-// it, from call to call: sheet-begun, sheet-more, sheet-ended, and sheet-refused.
+// it, from call to call: sheet_begun, sheet_more, sheet_ended, and sheet_refused.
 #![tactic(auto)]
 
 ghost use Rattle.std.specs.Prelude.{◌+◌, ◌*◌, ◌<◌, ◌≤◌, length};

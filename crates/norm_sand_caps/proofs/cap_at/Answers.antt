@@ -1,0 +1,10 @@
+-- The two cells of the column around the depth, weighed; the one division comes last.
+use Rattle.norm_columns.proofs.Means.{weighed_most}
+use Rattle.norm_sand_caps.proofs.ColumnLaws.{cap_is}
+use Rattle.norm_sand_caps.proofs.cap_at.Goals as goal
+
+pub returns : goal.returns
+returns c =
+    let a = c.cell.ensures in
+    let b = c.cell-2.ensures in
+    cap_is _ _ _ _ _ a.0 b.0 c.mean.ensures.0 (weighed_most _ _ _ _ _ c.mean.ensures.1 a.1 b.1)

@@ -1,0 +1,12 @@
+-- Each turn puts one place more behind the first i.
+use Rattle.record_packing.proofs.PackLaws.{writing_start, writing_more, writing_end}
+use Rattle.record_packing.proofs.write_log.Goals as goal
+
+pub loop-i-init : goal.loop-i-init
+loop-i-init c = writing_start _ _ c.args.buf.now c.requires.1
+
+pub loop-i-preserved : goal.loop-i-preserved
+loop-i-preserved c = writing_more _ _ _ _ _ c.loop-i.invariant _ _ c.loop-i-test.true c.row_bytes-b.ensures c.copy_in.ensures
+
+pub returns : goal.returns
+returns c = writing_end _ _ _ _ _ c.loop-i.invariant c.loop-i-test.false
