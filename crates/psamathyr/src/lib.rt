@@ -1,4 +1,4 @@
-// The door for hosts: the core's entries under plain names, for C and Rust. Each takes any bytes of any length, and replies.
+// The door for hosts: the core's entries under plain names. Each takes any bytes of any length, and replies. psamathyr_c exports them to C.
 #![tactic(auto)]
 
 ghost use Rattle.std.specs.Prelude.{◌≡◌};
@@ -11,13 +11,7 @@ ghost use Rattle.rules.specs.EditReplies.{edit_reply, edit_log, edit_table};
 
 use rules::{Answer, LogRead, Pile, PileRead, SandFields, SliceRead};
 
-#[unsafe(no_mangle)]
-pub extern "C" fn psamathyr_calculate(
-    log: &[u8],
-    pile: &[u8],
-    sand: SandFields,
-    table: &mut [u8],
-) -> Answer
+pub fn psamathyr_calculate(log: &[u8], pile: &[u8], sand: SandFields, table: &mut [u8]) -> Answer
     ensures reply { result ≡ calculated log.now pile.now (sand_from sand) table.old }
     ensures table { table.new ≡ table_after log.now pile.now (sand_from sand) table.old }
 {
@@ -25,8 +19,7 @@ pub extern "C" fn psamathyr_calculate(
     answer_calculation::calculate(log, pile, extra, table)
 }
 
-#[unsafe(no_mangle)]
-pub extern "C" fn psamathyr_edit(
+pub fn psamathyr_edit(
     log: &mut [u8],
     pile: &[u8],
     sand: SandFields,
@@ -44,16 +37,14 @@ pub extern "C" fn psamathyr_edit(
     edit_reply::edit(log, pile, extra, table, kind, k, x, row)
 }
 
-#[unsafe(no_mangle)]
-pub extern "C" fn psamathyr_read_log(log: &[u8]) -> LogRead
+pub fn psamathyr_read_log(log: &[u8]) -> LogRead
     ensures { result ≡ read_log log.now }
 {
     record_logs::read_log(log)
 }
 
 // Looks at count and rows only.
-#[unsafe(no_mangle)]
-pub extern "C" fn psamathyr_pack_log(fields: LogRead, log: &mut [u8]) -> Answer
+pub fn psamathyr_pack_log(fields: LogRead, log: &mut [u8]) -> Answer
     ensures reply { result ≡ refused (pack_log_check fields.log log.old) }
     ensures log { log.new ≡ packed_log fields.log log.old }
 {
@@ -61,16 +52,14 @@ pub extern "C" fn psamathyr_pack_log(fields: LogRead, log: &mut [u8]) -> Answer
     base_replies::refused(record_packing::pack_log(rows, log))
 }
 
-#[unsafe(no_mangle)]
-pub extern "C" fn psamathyr_read_pile(pile: &[u8]) -> PileRead
+pub fn psamathyr_read_pile(pile: &[u8]) -> PileRead
     ensures { result ≡ read_pile pile.now }
 {
     record_piles::read_pile(pile)
 }
 
 // Looks at section to grade only.
-#[unsafe(no_mangle)]
-pub extern "C" fn psamathyr_pack_pile(fields: PileRead, pile: &mut [u8]) -> Answer
+pub fn psamathyr_pack_pile(fields: PileRead, pile: &mut [u8]) -> Answer
     ensures reply { result ≡ refused (pack_pile_check (pile_of_read fields) pile.old) }
     ensures pile { pile.new ≡ packed_pile (pile_of_read fields) pile.old }
 {
@@ -87,8 +76,7 @@ pub extern "C" fn psamathyr_pack_pile(fields: PileRead, pile: &mut [u8]) -> Answ
     base_replies::refused(record_pile_bytes::pack_pile(parts, pile))
 }
 
-#[unsafe(no_mangle)]
-pub extern "C" fn psamathyr_read_slice(table: &[u8], place: u32) -> SliceRead
+pub fn psamathyr_read_slice(table: &[u8], place: u32) -> SliceRead
     ensures { result ≡ read_slice table.now place }
 {
     record_slices::read_slice(table, place)
