@@ -8,107 +8,107 @@ use Rattle.norm_friction_rows.specs.declared.Standing.{Standing}
 use Rattle.norm_friction_rows.specs.Standings.{spot_at}
 use Rattle.norm_friction_rows.proofs.Steps.{friction_deepens}
 use Rattle.settled.proofs.Settled.{Settled}
-use Rattle.norm_columns.proofs as norm-columns
-use Rattle.norm_spots.proofs as norm-spots
-use Rattle.norm_friction_rows.proofs as norm-friction-rows
-use Rattle.norm_tip_rows.proofs as norm-tip-rows
-use Rattle.norm_friction.proofs as norm-friction
-use Rattle.norm_tips.proofs as norm-tips
-use Rattle.norm_tip_reads.proofs as norm-tip-reads
-use Rattle.norm_scales.proofs as norm-scales
-use Rattle.norm_alphas.proofs as norm-alphas
-use Rattle.norm_sand_caps.proofs as norm-sand-caps
-use Rattle.norm_sand_tips.proofs as norm-sand-tips
-use Rattle.norm_factors.proofs as norm-factors
-use Rattle.norm_grades.proofs as norm-grades
+use Rattle.norm_columns.proofs as norm_columns
+use Rattle.norm_spots.proofs as norm_spots
+use Rattle.norm_friction_rows.proofs as norm_friction_rows
+use Rattle.norm_tip_rows.proofs as norm_tip_rows
+use Rattle.norm_friction.proofs as norm_friction
+use Rattle.norm_tips.proofs as norm_tips
+use Rattle.norm_tip_reads.proofs as norm_tip_reads
+use Rattle.norm_scales.proofs as norm_scales
+use Rattle.norm_alphas.proofs as norm_alphas
+use Rattle.norm_sand_caps.proofs as norm_sand_caps
+use Rattle.norm_sand_tips.proofs as norm_sand_tips
+use Rattle.norm_factors.proofs as norm_factors
+use Rattle.norm_grades.proofs as norm_grades
 
-pub past : Settled norm-columns.past.Kinds.ps norm-columns.past.Kinds.r norm-columns.past.Reads.Pre norm-columns.past.Reads.Learnt
+pub past : Settled norm_columns.past.Kinds.ps norm_columns.past.Kinds.r norm_columns.past.Reads.Pre norm_columns.past.Reads.Learnt
 past _ _ _ h g = cc
 
 column : {r s : Column} → r.number ≡ s.number → r.across ≡ s.across → r ≡ s
 column n a = λ i. record { number = n i; across = a i }
 
-pub column_for : Settled norm-columns.column_for.Kinds.ps norm-columns.column_for.Kinds.r norm-columns.column_for.Reads.Pre norm-columns.column_for.Reads.Learnt
+pub column_for : Settled norm_columns.column_for.Kinds.ps norm_columns.column_for.Kinds.r norm_columns.column_for.Reads.Pre norm_columns.column_for.Reads.Learnt
 column_for _ _ _ h g = column (cc) (cc)
 
-pub mean : Settled norm-columns.mean.Kinds.ps norm-columns.mean.Kinds.r norm-columns.mean.Reads.Pre norm-columns.mean.Reads.Learnt
+pub mean : Settled norm_columns.mean.Kinds.ps norm_columns.mean.Kinds.r norm_columns.mean.Reads.Pre norm_columns.mean.Reads.Learnt
 mean _ _ _ h g = cc
 
 standing : {r s : Standing} → r.row ≡ s.row → r.part ≡ s.part → r.whole ≡ s.whole → r ≡ s
 standing n a w = λ i. record { row = n i; part = a i; whole = w i }
 
 -- two rows of the table are some way apart
-pub friction_row : Settled norm-friction-rows.friction_row.Kinds.ps norm-friction-rows.friction_row.Kinds.r norm-friction-rows.friction_row.Reads.Pre norm-friction-rows.friction_row.Reads.Learnt
+pub friction_row : Settled norm_friction_rows.friction_row.Kinds.ps norm_friction_rows.friction_row.Kinds.r norm_friction_rows.friction_row.Reads.Pre norm_friction_rows.friction_row.Reads.Learnt
 friction_row c _ _ h g =
     let mid = c.args.0 in
     let far = (in_table friction_depths metre 11 friction_deepens 7 mid 0).weights.some in
     standing (h.row ∙ sym g.row) (eq_of_mul-eq-mul_right (spot_at mid).span far _ _ (h.part ∙ sym g.part)) (h.whole ∙ sym g.whole)
 
-pub tip_spot : Settled norm-tip-rows.tip_spot.Kinds.ps norm-tip-rows.tip_spot.Kinds.r norm-tip-rows.tip_spot.Reads.Pre norm-tip-rows.tip_spot.Reads.Learnt
+pub tip_spot : Settled norm_tip_rows.tip_spot.Kinds.ps norm_tip_rows.tip_spot.Kinds.r norm_tip_rows.tip_spot.Reads.Pre norm_tip_rows.tip_spot.Reads.Learnt
 tip_spot _ _ _ h g = cc
 
-pub weigh : Settled norm-spots.weigh.Kinds.ps norm-spots.weigh.Kinds.r norm-spots.weigh.Reads.Pre norm-spots.weigh.Reads.Learnt
+pub weigh : Settled norm_spots.weigh.Kinds.ps norm_spots.weigh.Kinds.r norm_spots.weigh.Reads.Pre norm_spots.weigh.Reads.Learnt
 weigh _ _ _ h g = cc
 
-pub rows : Settled norm-friction.rows.Kinds.ps norm-friction.rows.Kinds.r norm-friction.rows.Reads.Pre norm-friction.rows.Reads.Learnt
+pub rows : Settled norm_friction.rows.Kinds.ps norm_friction.rows.Kinds.r norm_friction.rows.Reads.Pre norm_friction.rows.Reads.Learnt
 rows _ _ _ h g = cc
 
-pub column_of : Settled norm-friction.column_of.Kinds.ps norm-friction.column_of.Kinds.r norm-friction.column_of.Reads.Pre norm-friction.column_of.Reads.Learnt
+pub column_of : Settled norm_friction.column_of.Kinds.ps norm_friction.column_of.Kinds.r norm_friction.column_of.Reads.Pre norm_friction.column_of.Reads.Learnt
 column_of _ _ _ h g = column (cc) (cc)
 
-pub friction : Settled norm-friction.friction.Kinds.ps norm-friction.friction.Kinds.r norm-friction.friction.Reads.Pre norm-friction.friction.Reads.Learnt
+pub friction : Settled norm_friction.friction.Kinds.ps norm_friction.friction.Kinds.r norm_friction.friction.Reads.Pre norm_friction.friction.Reads.Learnt
 friction _ _ _ h g = cc
 
-pub tip_resistance : Settled norm-tips.tip_resistance.Kinds.ps norm-tips.tip_resistance.Kinds.r norm-tips.tip_resistance.Reads.Pre norm-tips.tip_resistance.Reads.Learnt
+pub tip_resistance : Settled norm_tips.tip_resistance.Kinds.ps norm_tips.tip_resistance.Kinds.r norm_tips.tip_resistance.Reads.Pre norm_tips.tip_resistance.Reads.Learnt
 tip_resistance _ _ _ h g = cc
 
-pub pascals : Settled norm-tip-reads.pascals.Kinds.ps norm-tip-reads.pascals.Kinds.r norm-tip-reads.pascals.Reads.Pre norm-tip-reads.pascals.Reads.Learnt
+pub pascals : Settled norm_tip_reads.pascals.Kinds.ps norm_tip_reads.pascals.Kinds.r norm_tip_reads.pascals.Reads.Pre norm_tip_reads.pascals.Reads.Learnt
 pascals _ _ _ h g = cc
 
-pub is_dash : Settled norm-tip-reads.is_dash.Kinds.ps norm-tip-reads.is_dash.Kinds.r norm-tip-reads.is_dash.Reads.Pre norm-tip-reads.is_dash.Reads.Learnt
+pub is_dash : Settled norm_tip_reads.is_dash.Kinds.ps norm_tip_reads.is_dash.Kinds.r norm_tip_reads.is_dash.Reads.Pre norm_tip_reads.is_dash.Reads.Learnt
 is_dash _ _ _ h g = cc
 
-pub on_angles : Settled norm-scales.on_angles.Kinds.ps norm-scales.on_angles.Kinds.r norm-scales.on_angles.Reads.Pre norm-scales.on_angles.Reads.Learnt
+pub on_angles : Settled norm_scales.on_angles.Kinds.ps norm_scales.on_angles.Kinds.r norm_scales.on_angles.Reads.Pre norm_scales.on_angles.Reads.Learnt
 on_angles _ _ _ h g = cc
 
-pub on_ratios : Settled norm-scales.on_ratios.Kinds.ps norm-scales.on_ratios.Kinds.r norm-scales.on_ratios.Reads.Pre norm-scales.on_ratios.Reads.Learnt
+pub on_ratios : Settled norm_scales.on_ratios.Kinds.ps norm_scales.on_ratios.Kinds.r norm_scales.on_ratios.Reads.Pre norm_scales.on_ratios.Reads.Learnt
 on_ratios _ _ _ h g = cc
 
-pub on_diameters : Settled norm-scales.on_diameters.Kinds.ps norm-scales.on_diameters.Kinds.r norm-scales.on_diameters.Reads.Pre norm-scales.on_diameters.Reads.Learnt
+pub on_diameters : Settled norm_scales.on_diameters.Kinds.ps norm_scales.on_diameters.Kinds.r norm_scales.on_diameters.Reads.Pre norm_scales.on_diameters.Reads.Learnt
 on_diameters _ _ _ h g = cc
 
-pub on_depths : Settled norm-scales.on_depths.Kinds.ps norm-scales.on_depths.Kinds.r norm-scales.on_depths.Reads.Pre norm-scales.on_depths.Reads.Learnt
+pub on_depths : Settled norm_scales.on_depths.Kinds.ps norm_scales.on_depths.Kinds.r norm_scales.on_depths.Reads.Pre norm_scales.on_depths.Reads.Learnt
 on_depths _ _ _ h g = cc
 
-pub alpha_1 : Settled norm-alphas.alpha_1.Kinds.ps norm-alphas.alpha_1.Kinds.r norm-alphas.alpha_1.Reads.Pre norm-alphas.alpha_1.Reads.Learnt
+pub alpha_1 : Settled norm_alphas.alpha_1.Kinds.ps norm_alphas.alpha_1.Kinds.r norm_alphas.alpha_1.Reads.Pre norm_alphas.alpha_1.Reads.Learnt
 alpha_1 _ _ _ h g = cc
 
-pub alpha_2 : Settled norm-alphas.alpha_2.Kinds.ps norm-alphas.alpha_2.Kinds.r norm-alphas.alpha_2.Reads.Pre norm-alphas.alpha_2.Reads.Learnt
+pub alpha_2 : Settled norm_alphas.alpha_2.Kinds.ps norm_alphas.alpha_2.Kinds.r norm_alphas.alpha_2.Reads.Pre norm_alphas.alpha_2.Reads.Learnt
 alpha_2 _ _ _ h g = cc
 
-pub alpha_3 : Settled norm-alphas.alpha_3.Kinds.ps norm-alphas.alpha_3.Kinds.r norm-alphas.alpha_3.Reads.Pre norm-alphas.alpha_3.Reads.Learnt
+pub alpha_3 : Settled norm_alphas.alpha_3.Kinds.ps norm_alphas.alpha_3.Kinds.r norm_alphas.alpha_3.Reads.Pre norm_alphas.alpha_3.Reads.Learnt
 alpha_3 _ _ _ h g = cc
 
-pub alpha_4 : Settled norm-alphas.alpha_4.Kinds.ps norm-alphas.alpha_4.Kinds.r norm-alphas.alpha_4.Reads.Pre norm-alphas.alpha_4.Reads.Learnt
+pub alpha_4 : Settled norm_alphas.alpha_4.Kinds.ps norm_alphas.alpha_4.Kinds.r norm_alphas.alpha_4.Reads.Pre norm_alphas.alpha_4.Reads.Learnt
 alpha_4 _ _ _ h g = cc
 
-pub sand_cap : Settled norm-sand-caps.sand_cap.Kinds.ps norm-sand-caps.sand_cap.Kinds.r norm-sand-caps.sand_cap.Reads.Pre norm-sand-caps.sand_cap.Reads.Learnt
+pub sand_cap : Settled norm_sand_caps.sand_cap.Kinds.ps norm_sand_caps.sand_cap.Kinds.r norm_sand_caps.sand_cap.Reads.Pre norm_sand_caps.sand_cap.Reads.Learnt
 sand_cap _ _ _ h g = cc
 
-pub sand_resistance : Settled norm-sand-tips.sand_resistance.Kinds.ps norm-sand-tips.sand_resistance.Kinds.r norm-sand-tips.sand_resistance.Reads.Pre norm-sand-tips.sand_resistance.Reads.Learnt
+pub sand_resistance : Settled norm_sand_tips.sand_resistance.Kinds.ps norm_sand_tips.sand_resistance.Kinds.r norm_sand_tips.sand_resistance.Reads.Pre norm_sand_tips.sand_resistance.Reads.Learnt
 sand_resistance _ _ _ h g = cc
 
-pub factor : Settled norm-factors.factor.Kinds.ps norm-factors.factor.Kinds.r norm-factors.factor.Reads.Pre norm-factors.factor.Reads.Learnt
+pub factor : Settled norm_factors.factor.Kinds.ps norm_factors.factor.Kinds.r norm_factors.factor.Reads.Pre norm_factors.factor.Reads.Learnt
 factor _ _ _ h g = cc
 
-pub cut_depth : Settled norm-grades.cut_depth.Kinds.ps norm-grades.cut_depth.Kinds.r norm-grades.cut_depth.Reads.Pre norm-grades.cut_depth.Reads.Learnt
+pub cut_depth : Settled norm_grades.cut_depth.Kinds.ps norm_grades.cut_depth.Kinds.r norm_grades.cut_depth.Reads.Pre norm_grades.cut_depth.Reads.Learnt
 cut_depth _ _ _ h g = cc
 
-pub below_cut : Settled norm-grades.below_cut.Kinds.ps norm-grades.below_cut.Kinds.r norm-grades.below_cut.Reads.Pre norm-grades.below_cut.Reads.Learnt
+pub below_cut : Settled norm_grades.below_cut.Kinds.ps norm_grades.below_cut.Kinds.r norm_grades.below_cut.Reads.Pre norm_grades.below_cut.Reads.Learnt
 below_cut _ _ _ h g = cc
 
-pub shift_of : Settled norm-grades.shift_of.Kinds.ps norm-grades.shift_of.Kinds.r norm-grades.shift_of.Reads.Pre norm-grades.shift_of.Reads.Learnt
+pub shift_of : Settled norm_grades.shift_of.Kinds.ps norm_grades.shift_of.Kinds.r norm_grades.shift_of.Reads.Pre norm_grades.shift_of.Reads.Learnt
 shift_of _ _ _ h g = cc
 
-pub depth_read : Settled norm-grades.depth_read.Kinds.ps norm-grades.depth_read.Kinds.r norm-grades.depth_read.Reads.Pre norm-grades.depth_read.Reads.Learnt
+pub depth_read : Settled norm_grades.depth_read.Kinds.ps norm_grades.depth_read.Kinds.r norm_grades.depth_read.Reads.Pre norm_grades.depth_read.Reads.Learnt
 depth_read _ _ _ h g = cc

@@ -12,7 +12,7 @@ use borrow.Fn.Kinds.{ParamKind, ResultKind, In, Out, Dens, GoodsP, slots, kepts,
 -- that v is w, before the equations es, where the type of the parameter has a last value
 abbrev same : {D : Type 0} (e : Exit D) (x : D) (v w : Last e x) → List (Type 0) → List (Type 0)
 same unchanged x v w es = es
-same (leaves L l S s) x v w es = (v ≡ w) ∷ es
+same (leaves L l S s r) x v w es = (v ≡ w) ∷ es
 
 -- of each parameter
 abbrev sames : {n : ℕ} (κs : Lfts n) (ps : List (ParamKind n)) (a : Dens κs ps) (v w : Fins κs (slots ps) (kepts ps) a) → List (Type 0)

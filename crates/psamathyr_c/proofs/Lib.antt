@@ -1,0 +1,2 @@
+-- Every export's contract settles its reply.
+pub mod Exports
