@@ -236,7 +236,7 @@ pub merge_changes_nothing : (e : Edit) (k x : ℕ) (log pile : List ℕ) (extra 
     → AsCalculated e log (edited_log (asked 4 k x []) (edited_log e log)) pile extra table
 merge_changes_nothing e k x log pile extra table h g = Edits.merge_changes_nothing e k x log pile extra table h g
 
--- Request (i) of 02. "Demands 2 and 3 read with the grade as part of the record.": every theorem above has it in `pileOf`. Beside them:
+-- Request (i) of 02. "Demands 2 and 3 read with the grade as part of the record.": every theorem above has it in `pile_of`. Beside them:
 
 -- "An 8-byte record reads as grade 0", and is the record of ten bytes with zeros behind
 pub eight_bytes : (s : List ℕ) → length s ≡ plain_size → ((pile_of s).grade ≡ 0) × (pile_of (s ++ (0 ∷ 0 ∷ [])) ≡ pile_of s)

@@ -17,7 +17,7 @@ abbrev pub log_size : ℕ → ℕ
 log_size n = 1 + n * row_size
 
 -- "83 places", for 64 rows. 02 (iii): "Show from the row, tip and slice limits that 83 places always do.": one stratum down to 40,000 mm has
--- at most 20 slices, each further stratum adds at most one, and there are no more strata than rows (promised of every n: `always-room`)
+-- at most 20 slices, each further stratum adds at most one, and there are no more strata than rows (promised of every n: `always_room`)
 abbrev pub places_for : ℕ → ℕ
 places_for n = n + 19
 

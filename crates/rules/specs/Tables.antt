@@ -51,7 +51,7 @@ row_for ds unit (suc n) i d = let on = row_for ds unit n (i + 1) d in pick (ltb 
 
 -- Where depth d stands, in parts of which a metre has unit, and q hundredths right of the first column, in a table of
 -- m + 2 rows and c + 2 columns of ten hundredths. "above 1 m depth the 1 m row, below 35 m the 35 m row"; right of the last column, that column.
--- Above 1 m `withFirstMetre` makes friction of that row.
+-- Above 1 m `with_first_metre` makes friction of that row.
 unfoldable pub spot_of : List ℕ → ℕ → ℕ → ℕ → ℕ → ℕ → Spot
 spot_of ds unit m c d q =
     let clamped = max (get_or ds 0 0 * unit) (min d (get_or ds (m + 1) 0 * unit)) in
