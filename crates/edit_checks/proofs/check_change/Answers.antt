@@ -1,5 +1,5 @@
 -- Check by check, each where those before it refuse nothing; the new log is as deep as the lent one, less what goes and with what comes.
-use Rattle.std.proofs.Common.{sym, ◌∙◌, [], arith}
+use Rattle.std.proofs.Common.{◌≡◌, sym, ◌∙◌, true, [], arith}
 use Rattle.rules.proofs.PassedLaws.{known}
 use Rattle.rules.proofs.EditLaws.{standing}
 use Rattle.edit_checks.proofs.ChangeChecks.{deep, named, change_13, change_14, change_3, change_4, change_none}
@@ -12,11 +12,13 @@ pub full-full-requires : goal.full-full-requires
 full-full-requires c = omega (arith, (known _ c.requires.0).inside)
 
 pub returns-then-fails : goal.returns-then-fails
-returns-then-fails c = c.refused.ensures ∙ change_13 _ _ _ _ _ (sym c.stands-fails.ensures ∙ c.if-fails.true)
+returns-then-fails c = (cc) ∙ change_13 _ _ _ _ _ (sym c.stands-fails.ensures ∙ c.if-fails.true)
 
+-- where 14 refuses, 13 does not
 pub returns-then-full : goal.returns-then-full
 returns-then-full c =
-    c.refused-then-full.ensures ∙ change_14 _ _ _ _ _ (sym c.stands-fails.ensures ∙ c.if-fails.false) (sym c.full-full.ensures ∙ c.if-full.true)
+    let stands : c.stands-fails.result ≡ true = cc in
+    (cc) ∙ change_14 _ _ _ _ _ (sym c.stands-fails.ensures ∙ stands) (sym c.full-full.ensures ∙ c.if-full.true)
 
 pub returns-then-new-gt0 : goal.returns-then-new-gt0
 returns-then-new-gt0 c =
