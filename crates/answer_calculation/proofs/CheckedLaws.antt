@@ -1,4 +1,6 @@
 -- The log checks of lent pieces, by what the code has in hand: what a log that passes them is, and the reply and the table that go with them.
+use Rattle.rules.specs.declared.SandNumbers.{SandNumbers}
+use Rattle.std.specs.Prelude.{Option}
 use mathlib.Core.Path.{◌≡◌}
 use mathlib.Core.Bool.{true, false}
 use mathlib.Core.List.{List}
@@ -7,7 +9,6 @@ use native.Mathlib.Omega.{arith}
 use lib.ListN.{length}
 use borrow.Author.Tests.{eqb-false}
 use Rattle.rules.specs.declared.Answer.{Answer}
-use Rattle.rules.specs.declared.SandRecord.{SandRecord}
 use Rattle.rules.specs.Base.{refuse, refuses, when, first}
 use Rattle.rules.specs.Limits.{limit_of, table_size}
 use Rattle.rules.specs.Packed.{rows_of, pile_of, table_bytes}
@@ -21,7 +22,7 @@ use Rattle.record_log_checks.specs.declared.Checked.{Checked}
 use Rattle.record_log_checks.specs.Checks.{content_checked}
 use Rattle.answer_work.proofs.WorkLaws.{on, off}
 
-pub wrong : (log pile : List ℕ) (extra : SandRecord) (table : List ℕ) → lengths_wrong log pile table ≡ true → (refused (refuse 1) ≡ calculated log pile extra table) × (table ≡ table_after log pile extra table)
+pub wrong : (log pile : List ℕ) (extra : Option SandNumbers) (table : List ℕ) → lengths_wrong log pile table ≡ true → (refused (refuse 1) ≡ calculated log pile extra table) × (table ≡ table_after log pile extra table)
 unfolding calculated table_after lent_checks first when
 wrong log pile extra table h = (rw h, rw h)
 
@@ -48,7 +49,7 @@ module _ {log pile table : List ℕ} (l : Long log pile table) {r : Checked} (e 
   unfolding content_checked first when
   checks = rw (lent_grouped log pile table, l.right, e)
 
-  pub log_refused : (extra : SandRecord) → (r.refusal.number ≡ 0 → ⊥) → (refused r.refusal ≡ calculated log pile extra table) × (table ≡ table_after log pile extra table)
+  pub log_refused : (extra : Option SandNumbers) → (r.refusal.number ≡ 0 → ⊥) → (refused r.refusal ≡ calculated log pile extra table) × (table ≡ table_after log pile extra table)
   unfolding calculated table_after
   log_refused extra n = (rw (checks, on r.refusal.number n), rw (checks, on r.refusal.number n))
 
@@ -61,7 +62,7 @@ module _ {log pile table : List ℕ} (l : Long log pile table) {r : Checked} (e 
     unfolding content_checked first when
     ready = (rw (log_grouped log, l.formed) clear, rw (e, clear), omega (arith, l.size))
 
-    pub worked : (extra : SandRecord) (a : Answer) (after : List ℕ) → a ≡ fresh_answer log pile extra → after ≡ table_bytes (length table) (held_slices_of (rows_of log) (pile_of pile) extra)
+    pub worked : (extra : Option SandNumbers) (a : Answer) (after : List ℕ) → a ≡ fresh_answer log pile extra → after ≡ table_bytes (length table) (held_slices_of (rows_of log) (pile_of pile) extra)
         → (a ≡ calculated log pile extra table) × (after ≡ table_after log pile extra table)
     unfolding calculated table_after fresh_table
     worked extra a after f g = (rw (checks, off r.refusal.number z) f, rw (checks, off r.refusal.number z) (rw l.size at g))

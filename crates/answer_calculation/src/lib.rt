@@ -8,10 +8,10 @@ use answer_work::work_out;
 use base_replies::{refuse, refused};
 use record_lengths::lengths_wrong;
 use record_log_checks::check_content;
-use rules::{Answer, SandRecord};
+use rules::{Answer, SandNumbers};
 
 // The reply of a log, a pile record with its extra record, and a slice table of any length, and the table afterwards.
-pub fn calculate(log: &[u8], pile: &[u8], extra: SandRecord, table: &mut [u8]) -> Answer
+pub fn calculate(log: &[u8], pile: &[u8], extra: Option<SandNumbers>, table: &mut [u8]) -> Answer
     ensures reply { result ≡ calculated log.now pile.now extra table.old }
     ensures table { table.new ≡ table_after log.now pile.now extra table.old }
 {

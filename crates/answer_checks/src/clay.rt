@@ -6,11 +6,11 @@ ghost use Rattle.rules.proofs.Groups.{late_in_clay};
 
 use crate::seat::seat_short;
 use norm_tip_reads::is_dash;
-use rules::{Pile, Soil, TipRead};
+use rules::{Pile, Soil};
 
 // By the tip's soil, the top of its stratum and what the tip table is read to: the number of the first that refuses, or 0.
 #[tactic(auto, unfolding(rules::proofs::Groups::late_in_clay, rules::specs::Base::first, rules::specs::Base::when))]
-pub fn clay_refusal(pile: Pile, soil: Soil, top: u64, read: TipRead) -> u32
+pub fn clay_refusal(pile: Pile, soil: Soil, top: u64, read: Option<u64>) -> u32
     requires { (pile.head ≤ pile.tip) × (top ≤ pile.tip) × (read ≡ tip_read (tip_of pile) soil.index) }
     ensures { base.refuse result ≡ late_in_clay soil top pile }
 {

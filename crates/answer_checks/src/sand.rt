@@ -4,7 +4,6 @@ ghost use Rattle.rules.specs.Base.{neg, within};
 ghost use Rattle.rules.specs.Base as base;
 ghost use Rattle.rules.specs.Checks.{record_wrong};
 ghost use Rattle.rules.specs.SandTips.{reduced};
-ghost use Rattle.rules.specs.declared.SandRecord.TheVariants.{Given};
 ghost use Rattle.rules.proofs.Groups.{late_in_sand};
 
 use crate::seat::seat_short;
@@ -34,7 +33,7 @@ fn weight_wrong(weight: u32) -> bool
 
 // One of the three numbers out of range, or h/d under 4.
 fn record_wrong(pile: Pile, brought: SandNumbers) -> bool
-    ensures { result ≡ record_wrong pile (Given brought) }
+    ensures { result ≡ record_wrong pile (Some brought) }
 {
     if angle_wrong(brought.angle) {
         return true;
@@ -52,7 +51,7 @@ fn record_wrong(pile: Pile, brought: SandNumbers) -> bool
 #[tactic(auto, unfolding(rules::proofs::Groups::late_in_sand, rules::specs::Base::first, rules::specs::Base::when))]
 pub fn sand_refusal(pile: Pile, brought: SandNumbers, top: u64) -> u32
     requires { (pile.head ≤ pile.tip) × (top ≤ pile.tip) }
-    ensures { base.refuse result ≡ late_in_sand top pile (Given brought) }
+    ensures { base.refuse result ≡ late_in_sand top pile (Some brought) }
 {
     if pile.section == 2 {
         return 9;

@@ -1,4 +1,5 @@
 -- The work on a tip, check by check: the first check that refuses decides, and past them all R stands.
+use Rattle.std.specs.Prelude.{Option, None, Some}
 use mathlib.Core.Path.{◌≡◌, refl, sym, ◌∙◌, ap}
 use mathlib.Core.Bool.{true, false}
 use Prim.Native.Nat.{ℕ, ◌<◌, ◌≤◌}
@@ -8,9 +9,6 @@ use borrow.Author.Tests.{lt-ltb, le-ltb, leb-true, eqb-false}
 use Rattle.rules.specs.declared.Soil.{Soil}
 use Rattle.rules.specs.declared.Pile.{Pile}
 use Rattle.rules.specs.declared.SandNumbers.{SandNumbers}
-use Rattle.rules.specs.declared.SandRecord.{SandRecord}
-use Rattle.rules.specs.declared.SandRecord.TheVariants.{Absent, Given}
-use Rattle.rules.specs.declared.TipRead.{TipRead}
 use Rattle.rules.specs.Base.{either, refuse, refuses, when, first}
 use Rattle.rules.specs.Bounds.{resistance_bound}
 use Rattle.rules.specs.SandTips.{sand_resistance}
@@ -25,7 +23,7 @@ use Rattle.norm_sand_tips.specs.Terms.{Weighs}
 use Rattle.answer_tips.specs.declared.TipWork.{TipWork}
 use Rattle.answer_tips.specs.Tips.{resistance_held, TipWorked}
 
-module _ (soil : Soil) (top : ℕ) (p : Pile) (extra : SandRecord) (n : ℕ) (e : refuse n ≡ late soil top p extra) where
+module _ (soil : Soil) (top : ℕ) (p : Pile) (extra : Option SandNumbers) (n : ℕ) (e : refuse n ≡ late soil top p extra) where
   -- a check refuses
   pub refused : (n ≡ 0 → ⊥) → (r : TipWork) → r ≡ record { refusal = n; resistance = 0 } → TipWorked soil top p extra r
   unfolding resistance_held
@@ -42,14 +40,14 @@ module _ (soil : Soil) (top : ℕ) (p : Pile) (extra : SandRecord) (n : ℕ) (e 
 
 -- in sand
 module _ (soil : Soil) (top : ℕ) (p : Pile) (s : sand soil ≡ true) where
-  pub in_sand : (extra : SandRecord) (n : ℕ) → refuse n ≡ late_in_sand top p extra → refuse n ≡ late soil top p extra
+  pub in_sand : (extra : Option SandNumbers) (n : ℕ) → refuse n ≡ late_in_sand top p extra → refuse n ≡ late soil top p extra
   in_sand extra n e = e ∙ sym (late_in_sand_lem soil top p extra s)
 
-  pub no_record : refuse 9 ≡ late soil top p Absent
+  pub no_record : refuse 9 ≡ late soil top p None
   unfolding late_in_sand first when
-  no_record = in_sand Absent 9 refl
+  no_record = in_sand None 9 refl
 
-  pub by_formula : (b : SandNumbers) (h depth x : ℕ) → x ≡ sand_resistance b h p.a soil.kind depth → h ≡ tip_from_cut p → depth ≡ tip_of p → x ≡ resistance p (Given b) soil
+  pub by_formula : (b : SandNumbers) (h depth x : ℕ) → x ≡ sand_resistance b h p.a soil.kind depth → h ≡ tip_from_cut p → depth ≡ tip_of p → x ≡ resistance p (Some b) soil
   unfolding resistance
   by_formula b h depth x e f g = rw (s, e, f, g)
 
@@ -64,26 +62,26 @@ module _ (soil : Soil) (top : ℕ) (p : Pile) (s : sand soil ≡ true) where
       pile_in_range bare r.0 (when_off 5 (method_wrong p) r.1) (omega arith) (omega arith) (omega arith)
 
   -- where 9 and 17 refuse nothing, the formula's numbers are bounded
-  pub bounded : refuses (pile_checks p) ≡ false → (b : SandNumbers) (n : ℕ) → refuse n ≡ late_in_sand top p (Given b) → n ≡ 0
+  pub bounded : refuses (pile_checks p) ≡ false → (b : SandNumbers) (n : ℕ) → refuse n ≡ late_in_sand top p (Some b) → n ≡ 0
       → Weighs b × (0 < p.a) × (p.a ≤ 2000) × (soil.kind ≤ 3)
   unfolding late_in_sand
   bounded g b n e z =
       let off = ap refuses (sym e) ∙ le-ltb 0 n (omega arith) in
-      let nine = first_off (when (either (absent (Given b)) (eqb p.section 2)) 9) _ off in
-      let ten = first_off (when (seat_short top p) 10) (when (record_wrong p (Given b)) 17) nine.1 in
+      let nine = first_off (when (either (absent (Some b)) (eqb p.section 2)) 9) _ off in
+      let ten = first_off (when (seat_short top p) 10) (when (record_wrong p (Some b)) 17) nine.1 in
       let range = in_range g in
       let other : p.section ≡ 2 → ⊥ = eqb-false p.section 2 (when_off 8 _ nine.0) in
       let circle : p.section ≡ 1 = omega (arith, range.section.0, range.section.1, other) in
       let kind = leb-true soil.kind 3 s in
-      let r = ranges soil p (Given b) b (when_off 16 _ ten.1) in
+      let r = ranges soil p (Some b) b (when_off 16 _ ten.1) in
       let a = (range.circle circle).0 in
       (record { below = r.1.1; above = r.2.1 }, omega (arith, a.0), a.1, kind)
 
 -- in clay
-module _ (soil : Soil) (top : ℕ) (p : Pile) (extra : SandRecord) (c : sand soil ≡ false) where
+module _ (soil : Soil) (top : ℕ) (p : Pile) (extra : Option SandNumbers) (c : sand soil ≡ false) where
   pub in_clay : (n : ℕ) → refuse n ≡ late_in_clay soil top p → refuse n ≡ late soil top p extra
   in_clay n e = e ∙ sym (late_in_clay_lem soil top p extra c)
 
-  pub by_table : (t : TipRead) (x : ℕ) → x ≡ pascals t → t ≡ tip_read (tip_of p) soil.index → x ≡ resistance p extra soil
+  pub by_table : (t : Option ℕ) (x : ℕ) → x ≡ pascals t → t ≡ tip_read (tip_of p) soil.index → x ≡ resistance p extra soil
   unfolding resistance
   by_table t x e f = rw (c, e, f)

@@ -3,7 +3,6 @@
 
 ghost use Rattle.std.specs.Prelude.{◌≡◌, true, false};
 ghost use Rattle.rules.specs.Numbers.{sand};
-ghost use Rattle.rules.specs.declared.SandRecord.TheVariants.{Given};
 ghost use Rattle.answer_tips.specs.Tips.{TipReady, TipWorked};
 
 use answer_checks::{clay_refusal, sand_refusal};
@@ -11,7 +10,7 @@ use norm_grades::{below_cut, depth_read};
 use norm_sand_tips::sand_resistance;
 use norm_tip_reads::pascals;
 use norm_tips::tip_resistance;
-use rules::{Pile, SandNumbers, SandRecord, Soil};
+use rules::{Pile, SandNumbers, Soil};
 
 // The number of the first that refuses and no R, or 0 and R in whole Pa.
 #[derive(Clone, Copy)]
@@ -32,7 +31,7 @@ fn refused_tip(refusal: u32) -> TipWork
 // In sand, with the extra record: by the formula.
 fn given_tip(pile: Pile, brought: SandNumbers, soil: Soil, top: u64) -> TipWork
     requires { TipReady pile top × (sand soil ≡ true) }
-    ensures { TipWorked soil top pile (Given brought) result }
+    ensures { TipWorked soil top pile (Some brought) result }
 {
     let refusal = sand_refusal(pile, brought, top);
     if refusal != 0 {
@@ -47,18 +46,18 @@ fn given_tip(pile: Pile, brought: SandNumbers, soil: Soil, top: u64) -> TipWork
 }
 
 // In sand: refused without the extra record.
-fn sand_tip(pile: Pile, extra: SandRecord, soil: Soil, top: u64) -> TipWork
+fn sand_tip(pile: Pile, extra: Option<SandNumbers>, soil: Soil, top: u64) -> TipWork
     requires { TipReady pile top × (sand soil ≡ true) }
     ensures { TipWorked soil top pile extra result }
 {
     match extra {
-        SandRecord::Absent => refused_tip(9),
-        SandRecord::Given(brought) => given_tip(pile, brought, soil, top),
+        None => refused_tip(9),
+        Some(brought) => given_tip(pile, brought, soil, top),
     }
 }
 
 // In clay: by the tip table.
-fn clay_tip(pile: Pile, extra: SandRecord, soil: Soil, top: u64) -> TipWork
+fn clay_tip(pile: Pile, extra: Option<SandNumbers>, soil: Soil, top: u64) -> TipWork
     requires { TipReady pile top × (sand soil ≡ false) }
     ensures { TipWorked soil top pile extra result }
 {
@@ -74,7 +73,7 @@ fn clay_tip(pile: Pile, extra: SandRecord, soil: Soil, top: u64) -> TipWork
 }
 
 // By the soil just below the tip and the top of its stratum; over clay the extra record is not looked at.
-pub fn work_tip(pile: Pile, extra: SandRecord, soil: Soil, top: u64) -> TipWork
+pub fn work_tip(pile: Pile, extra: Option<SandNumbers>, soil: Soil, top: u64) -> TipWork
     requires { TipReady pile top }
     ensures { TipWorked soil top pile extra result }
 {

@@ -1,4 +1,6 @@
 -- What is worked out, check by check: the first check that refuses decides, and past them all the numbers stand.
+use Rattle.rules.specs.declared.SandNumbers.{SandNumbers}
+use Rattle.std.specs.Prelude.{Option}
 use mathlib.Core.Path.{◌≡◌, sym, ◌∙◌, ap}
 use mathlib.Core.Bool.{Bool, true, false}
 use mathlib.Core.List.{List}
@@ -13,7 +15,6 @@ use Rattle.rules.specs.declared.Soil.{Soil}
 use Rattle.rules.specs.declared.Pile.{Pile}
 use Rattle.rules.specs.declared.Slice.{Slice}
 use Rattle.rules.specs.declared.Answer.{Answer}
-use Rattle.rules.specs.declared.SandRecord.{SandRecord}
 use Rattle.rules.specs.Base.{pick, refuse, refuses, first}
 use Rattle.rules.specs.Packed.{rows_of, pile_of, table_bytes}
 use Rattle.rules.specs.Ground.{depth_of, same, soil_at}
@@ -56,14 +57,14 @@ unfolding early depth_checks
 early_is depth p r own deep n f o d e = rw (f, o, d, e)
 
 -- the answer, how many slices it has, and the table: what is to be worked out
-abbrev pub Right : List Row → Pile → SandRecord → ℕ → Answer → ℕ → List ℕ → Type 0
+abbrev pub Right : List Row → Pile → Option SandNumbers → ℕ → Answer → ℕ → List ℕ → Type 0
 Right rs p extra size a used bytes = ((a ≡ answer_of rs p extra) × (used ≡ length (held_slices_of rs p extra))) × (bytes ≡ table_bytes size (held_slices_of rs p extra))
 
 -- and what a refusal leaves
 abbrev pub Cleared : Refusal → ℕ → Answer → ℕ → List ℕ → Type 0
 Cleared r size a used bytes = ((a ≡ refused r) × (used ≡ 0)) × (bytes ≡ replicate size 0)
 
-module _ (rs : List Row) (p : Pile) (extra : SandRecord) (size : ℕ) where
+module _ (rs : List Row) (p : Pile) (extra : Option SandNumbers) (size : ℕ) where
   abbrev below : Soil
   below = soil_at rs p.tip
 
@@ -118,7 +119,7 @@ module _ (rs : List Row) (p : Pile) (extra : SandRecord) (size : ℕ) where
         ((rw (none, f, k, j, held, e), rw (none, e)), rw none b)
 
 -- of the bytes of a log and a pile record
-pub fresh : (log pile : List ℕ) (p : Pile) (extra : SandRecord) (size : ℕ) (a : Answer) {used : ℕ} {bytes : List ℕ} → p ≡ pile_of pile → Right (rows_of log) p extra size a used bytes
+pub fresh : (log pile : List ℕ) (p : Pile) (extra : Option SandNumbers) (size : ℕ) (a : Answer) {used : ℕ} {bytes : List ℕ} → p ≡ pile_of pile → Right (rows_of log) p extra size a used bytes
     → ((a ≡ fresh_answer log pile extra) × (used ≡ length (held_slices_of (rows_of log) (pile_of pile) extra))) × (bytes ≡ table_bytes size (held_slices_of (rows_of log) (pile_of pile) extra))
 unfolding fresh_answer
 fresh log pile p extra size a e w = rw e at w

@@ -20,7 +20,7 @@ use base_replies::{first, refuse, refused};
 use record_pile_ranges::pile_refusal;
 use record_piles::take_pile;
 use record_slice_table::clear_table;
-use rules::{Answer, Pile, Refusal, SandRecord};
+use rules::{Answer, Pile, Refusal, SandNumbers};
 
 // What is worked out of a log and a pile record beside the table: the answer, and how many slices it has.
 #[derive(Clone, Copy)]
@@ -43,7 +43,7 @@ fn no_work(table: &mut [u8], refusal: Refusal) -> Worked
 }
 
 // A pile that passes checks 5 to 8. Its shaft is cut before its tip is looked at: the cut tells the soil below the tip and its stratum.
-fn work_pile(log: &[u8], pile: Pile, extra: SandRecord, table: &mut [u8]) -> Worked
+fn work_pile(log: &[u8], pile: Pile, extra: Option<SandNumbers>, table: &mut [u8]) -> Worked
     requires { Passed log.now × (base.refuses (early (depth_of (rows_of log.now)) pile) ≡ false) × (table_size (limit_of log.now) ≤ length table.old) }
     ensures worked { (result.answer ≡ answer_of (rows_of log.now) pile extra) × (result.used ≡ length (held_slices_of (rows_of log.now) pile extra)) }
     ensures table { table.new ≡ table_bytes (length table.old) (held_slices_of (rows_of log.now) pile extra) }
@@ -63,7 +63,7 @@ fn work_pile(log: &[u8], pile: Pile, extra: SandRecord, table: &mut [u8]) -> Wor
 }
 
 // The answer and the table of a log past its checks, whose rows are this deep, a pile record and its extra record; the table has the places of the log's form.
-pub fn work_out(log: &[u8], depth: u64, pile: &[u8], extra: SandRecord, table: &mut [u8]) -> Worked
+pub fn work_out(log: &[u8], depth: u64, pile: &[u8], extra: Option<SandNumbers>, table: &mut [u8]) -> Worked
     requires { Passed log.now × (depth ≡ depth_of (rows_of log.now)) × (table_size (limit_of log.now) ≤ length table.old) }
     ensures worked { (result.answer ≡ fresh_answer log.now pile.now extra) × (result.used ≡ length (held_slices_of (rows_of log.now) (pile_of pile.now) extra)) }
     ensures table { table.new ≡ table_bytes (length table.old) (held_slices_of (rows_of log.now) (pile_of pile.now) extra) }

@@ -1,11 +1,12 @@
 -- Laws of what is held: the answer with kept, the table, and that the places suffice.
+use Rattle.rules.specs.declared.SandNumbers.{SandNumbers}
+use Rattle.std.specs.Prelude.{Option}
 use mathlib.Core.Path.{◌≡◌, ◌∙◌, ap}
 use mathlib.Core.List.{List}
 use Prim.Native.Nat.{ℕ, ◌≤◌}
 use native.Mathlib.Omega.{arith}
 use lib.ListN.{length}
 use Rattle.rules.specs.declared.Answer.{Answer}
-use Rattle.rules.specs.declared.SandRecord.{SandRecord}
 use Rattle.rules.specs.Limits.{row_limit, place_limit, limit_of, table_size}
 use Rattle.rules.specs.Packed.{rows_of, pile_of, table_bytes}
 use Rattle.rules.specs.Checks.{Passed}
@@ -16,7 +17,7 @@ use Rattle.rules.proofs.PassedLaws.{known}
 use Rattle.rules.proofs.RoomLaws.{log_room}
 
 -- the answer of the log as it now stands, with kept, and its table
-pub held : (log pile : List ℕ) (extra : SandRecord) (table : List ℕ) (a : Answer) (n m : ℕ) (new old : List ℕ) → length table ≡ table_size (limit_of log) → a ≡ fresh_answer log pile extra → n ≡ used_slices log pile extra
+pub held : (log pile : List ℕ) (extra : Option SandNumbers) (table : List ℕ) (a : Answer) (n m : ℕ) (new old : List ℕ) → length table ≡ table_size (limit_of log) → a ≡ fresh_answer log pile extra → n ≡ used_slices log pile extra
     → new ≡ table_bytes (length table) (held_slices_of (rows_of log) (pile_of pile) extra) → old ≡ table → m ≡ kept n new old → (with_kept m a ≡ edit_answer log pile extra table) × (new ≡ fresh_table log pile extra)
 unfolding edit_answer fresh_table
 held log pile extra table a n m new old l p q t u h = (rw (h, p, q, t, u, l), rw (t, l))
@@ -25,5 +26,5 @@ held log pile extra table a n m new old l p q t u h = (rw (h, p, q, t, u, l), rw
 pub room : (log table : List ℕ) → Passed log → length table ≡ table_size (limit_of log) → length table ≡ table_size row_limit
 room log table p l = l ∙ ap table_size (one_form log (known log p).form)
 
-pub few : (log pile : List ℕ) (extra : SandRecord) (n : ℕ) → Passed log → n ≡ used_slices log pile extra → n ≤ place_limit
+pub few : (log pile : List ℕ) (extra : Option SandNumbers) (n : ℕ) → Passed log → n ≡ used_slices log pile extra → n ≤ place_limit
 few log pile extra n p h = omega (arith, h, log_room log pile extra p, limit_most log)

@@ -9,10 +9,10 @@ ghost use Rattle.rules.specs.Checks.{Passed};
 ghost use Rattle.rules.specs.Calculation.{fresh_table};
 ghost use Rattle.rules.specs.EditReplies.{edit_answer};
 
-use rules::{Answer, SandRecord};
+use rules::{Answer, SandNumbers};
 
 // The changed log, this deep, is worked out into the table. The table is written in place, so kept is counted against a copy of it.
-pub fn hold(log: &[u8], depth: u64, pile: &[u8], extra: SandRecord, table: &mut [u8]) -> Answer
+pub fn hold(log: &[u8], depth: u64, pile: &[u8], extra: Option<SandNumbers>, table: &mut [u8]) -> Answer
     requires { Passed log.now × (depth ≡ depth_of (rows_of log.now)) × (length table.old ≡ table_size (limit_of log.now)) }
     ensures reply { result ≡ edit_answer log.now pile.now extra table.old }
     ensures table { table.new ≡ fresh_table log.now pile.now extra }

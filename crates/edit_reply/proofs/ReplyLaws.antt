@@ -1,4 +1,6 @@
 -- Laws of the reply: what the checks of an accepted edit leave known, and the log, the table and the answer of a refused and of an accepted one.
+use Rattle.rules.specs.declared.SandNumbers.{SandNumbers}
+use Rattle.std.specs.Prelude.{Option}
 use mathlib.Core.Path.{◌≡◌, sym, ◌∙◌, ap}
 use mathlib.Core.Bool.{true, false}
 use mathlib.Core.List.{List}
@@ -7,7 +9,6 @@ use lib.ListN.{length}
 use borrow.Author.Tests.{lt-ltb, le-ltb}
 use Rattle.rules.specs.declared.Refusal.{Refusal}
 use Rattle.rules.specs.declared.Answer.{Answer}
-use Rattle.rules.specs.declared.SandRecord.{SandRecord}
 use Rattle.rules.specs.Base.{refuses, when, first}
 use Rattle.rules.specs.Records.{row_size}
 use Rattle.rules.specs.Limits.{limit_of, table_size}
@@ -36,7 +37,7 @@ pub nothing_said : (e : Edit) (log pile table : List ℕ) (r : Checked) → r �
 nothing_said e log pile table r h n = ap refuses (sym (said e log pile table r h)) ∙ le-ltb 0 r.refusal.number n
 
 -- "A refused edit .. changes no buffer."
-pub refused_edit_lem : (e : Edit) (log pile : List ℕ) (extra : SandRecord) (table : List ℕ) (w : Refusal) (a : Answer) → w ≡ edit_checks e log pile table → 0 < w.number → a ≡ refused w
+pub refused_edit_lem : (e : Edit) (log pile : List ℕ) (extra : Option SandNumbers) (table : List ℕ) (w : Refusal) (a : Answer) → w ≡ edit_checks e log pile table → 0 < w.number → a ≡ refused w
     → (a ≡ edit_reply e log pile extra table) × ((log ≡ edit_log e log pile table) × (table ≡ edit_table e log pile extra table))
 unfolding edit_reply edit_log edit_table
 refused_edit_lem e log pile extra table w a h n f =
@@ -78,7 +79,7 @@ module _ (e : Edit) (log pile table : List ℕ) (none : Accepted e log pile tabl
   pub now_long : length table ≡ table_size (limit_of s)
   now_long = let a = allowed e log pile table none in rw (f, a.left.limit) a.lent.size
 
-  pub accepted_edit : (extra : SandRecord) (a : Answer) (new : List ℕ) → a ≡ edit_answer s pile extra table → new ≡ fresh_table s pile extra
+  pub accepted_edit : (extra : Option SandNumbers) (a : Answer) (new : List ℕ) → a ≡ edit_answer s pile extra table → new ≡ fresh_table s pile extra
       → (a ≡ edit_reply e log pile extra table) × ((s ≡ edit_log e log pile table) × (new ≡ edit_table e log pile extra table))
   unfolding edit_reply edit_log edit_table
   accepted_edit extra a new h t = (rw none (h ∙ rw f), (rw none f, rw none (t ∙ rw f)))

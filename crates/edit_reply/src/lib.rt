@@ -5,13 +5,13 @@ ghost use Rattle.std.specs.Prelude.{◌≡◌};
 ghost use Rattle.rules.specs.Edits.{asked};
 ghost use Rattle.rules.specs.EditReplies.{edit_reply, edit_log, edit_table};
 
-use rules::{Answer, SandRecord};
+use rules::{Answer, SandNumbers};
 
 // An edit of a log, with a pile record and its extra record, a slice table and a new row of any lengths: the reply, and the log and table afterwards.
 pub fn edit(
     log: &mut [u8],
     pile: &[u8],
-    extra: SandRecord,
+    extra: Option<SandNumbers>,
     table: &mut [u8],
     kind: u32,
     k: u32,

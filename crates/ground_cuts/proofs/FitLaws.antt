@@ -1,4 +1,6 @@
 -- The slices of any rows and any pile record have some thickness and fit their bits.
+use Rattle.rules.specs.declared.SandNumbers.{SandNumbers}
+use Rattle.std.specs.Prelude.{Option}
 use mathlib.Core.Bool.{Bool, true, false}
 use mathlib.Core.List.{List, [], ◌∷◌}
 use Prim.Native.Nat.{ℕ, ◌+◌, ◌-◌, ◌^◌, ◌<◌}
@@ -6,7 +8,6 @@ use native.Mathlib.Omega.{arith}
 use Rattle.rules.specs.declared.Row.{Row}
 use Rattle.rules.specs.declared.Pile.{Pile}
 use Rattle.rules.specs.declared.Slice.{Slice}
-use Rattle.rules.specs.declared.SandRecord.{SandRecord}
 use Rattle.rules.specs.Base.{pick, refuses}
 use Rattle.rules.specs.Packed.{pile_of}
 use Rattle.rules.specs.Ranges.{SlicesFit}
@@ -32,7 +33,7 @@ shown_fit : (b : Bool) (cs : List Slice) → SlicesFit cs → SlicesFit (pick b 
 shown_fit true cs f = tt
 shown_fit false cs f = f
 
-pub rows_fit : (rs : List Row) (s : List ℕ) (extra : SandRecord) → SlicesFit (held_slices_of rs (pile_of s) extra)
+pub rows_fit : (rs : List Row) (s : List ℕ) (extra : Option SandNumbers) → SlicesFit (held_slices_of rs (pile_of s) extra)
 unfolding held_slices_of held_slices pieces pile_of
 rows_fit rs s extra =
     let p : Pile = pile_of s in

@@ -4,23 +4,22 @@
 ghost use Rattle.std.specs.Prelude.{◌≡◌};
 ghost use Rattle.rules.specs.Numbers as numbers;
 
-use rules::TipRead;
 
 // The R that was read; 0 of a dash.
-pub fn pascals(read: TipRead) -> u64
+pub fn pascals(read: Option<u64>) -> u64
     ensures { result ≡ numbers.pascals read }
 {
     match read {
-        TipRead::Dashed => 0,
-        TipRead::Pascals(r) => r,
+        None => 0,
+        Some(r) => r,
     }
 }
 
-pub fn is_dash(read: TipRead) -> bool
+pub fn is_dash(read: Option<u64>) -> bool
     ensures { result ≡ numbers.is_dash read }
 {
     match read {
-        TipRead::Dashed => true,
-        TipRead::Pascals(_) => false,
+        None => true,
+        Some(_) => false,
     }
 }

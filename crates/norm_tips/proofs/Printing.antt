@@ -1,12 +1,11 @@
 -- What the printed table 7.8 has, each by one computed test: cells within bounds, and the stored rows.
+use Rattle.std.specs.Prelude.{Option, None, Some}
 use mathlib.Core.Path.{◌≡◌, refl, ap}
 use mathlib.Core.Bool.{Bool, true, false}
 use mathlib.Core.List.{List, []}
 use Prim.Native.Nat.{ℕ, ◌<◌, ◌≤◌}
 use lib.Dec.{T, eqb, leb, leb→le, eqb→eq}
 use lib.ListN.{get_or}
-use Rattle.rules.specs.declared.Cell.{Cell}
-use Rattle.rules.specs.declared.Cell.TheVariants.{Dash, Kpa}
 use Rattle.rules.specs.Bounds.{cell_bound}
 use Rattle.rules.specs.Tables.{tip_cell, kpa_of}
 use Rattle.rules.proofs.TableLaws.{every}
@@ -16,17 +15,17 @@ use Rattle.norm_tips.specs.Cells.{cell_of, Printed}
 pub cells : (i j : ℕ) → i < 10 → j < 7 → kpa_of (tip_cell i j) ≤ cell_bound
 cells i j h l = leb→le _ _ (grid 10 7 (λ k m. leb (kpa_of (tip_cell k m)) cell_bound) tt i j h l)
 
-abbrev alike : Cell → Cell → Bool
-alike Dash Dash = true
-alike Dash (Kpa n) = false
-alike (Kpa m) Dash = false
-alike (Kpa m) (Kpa n) = eqb m n
+abbrev alike : Option ℕ → Option ℕ → Bool
+alike None None = true
+alike None (Some n) = false
+alike (Some m) None = false
+alike (Some m) (Some n) = eqb m n
 
-alike_is : (c d : Cell) → T (alike c d) → c ≡ d
-alike_is Dash Dash t = refl
-alike_is Dash (Kpa n) t = absurd t
-alike_is (Kpa m) Dash t = absurd t
-alike_is (Kpa m) (Kpa n) t = ap Kpa (eqb→eq m n t)
+alike_is : (c d : Option ℕ) → T (alike c d) → c ≡ d
+alike_is None None t = refl
+alike_is None (Some n) t = absurd t
+alike_is (Some m) None t = absurd t
+alike_is (Some m) (Some n) t = ap Some (eqb→eq m n t)
 
 abbrev as_printed : List (List ℕ) → ℕ → ℕ → Bool
 as_printed rows i j = alike (cell_of (get_or (get_or rows i []) j 0)) (tip_cell i j)

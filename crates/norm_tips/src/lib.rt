@@ -9,7 +9,7 @@ ghost use Rattle.rules.specs.Numbers as numbers;
 ghost use Rattle.norm_spots.specs.Spots.{span_bound, Weights, InTable};
 ghost use Rattle.norm_tips.specs.Cells.{cell_of, Printed, dash_of, tip_read_at};
 
-use rules::{Cell, Spot, TipRead};
+use rules::Spot;
 
 // The mark of a dash, which is no kPa.
 const DASH: u16 = 65535;
@@ -29,49 +29,49 @@ const ROWS: [[u16; 7]; 10] = [
 ];
 
 // A stored number as a cell.
-fn cell_of(n: u16) -> Cell
+fn cell_of(n: u16) -> Option<u64>
     ensures { result ≡ cell_of n }
 {
     if n == DASH {
-        return Cell::Dash;
+        return None;
     }
-    Cell::Kpa(n as u64)
+    Some(n as u64)
 }
 
 // A cell of the lent rows.
-fn cell(rows: &[[u16; 7]; 10], i: usize, j: usize) -> Cell
+fn cell(rows: &[[u16; 7]; 10], i: usize, j: usize) -> Option<u64>
     requires { Printed rows.now × (i < 10) × (j < 7) }
     ensures { (result ≡ tip_cell i j) × (kpa_of result ≤ cell_bound) }
 {
     cell_of(rows[i][j])
 }
 
-fn kpa_of(c: Cell) -> u64
+fn kpa_of(c: Option<u64>) -> u64
     ensures { result ≡ kpa_of c }
 {
     match c {
-        Cell::Dash => 0,
-        Cell::Kpa(n) => n,
+        None => 0,
+        Some(n) => n,
     }
 }
 
 // A dash, and both weights above zero.
-fn on_dash(u: u64, v: u64, c: Cell) -> bool
+fn on_dash(u: u64, v: u64, c: Option<u64>) -> bool
     ensures { result ≡ gap u v c }
 {
     match c {
-        Cell::Dash => {
+        None => {
             if u == 0 {
                 return false;
             }
             0 < v
         }
-        Cell::Kpa(_) => false,
+        Some(_) => false,
     }
 }
 
 #[tactic(auto, unfolding(crate::specs::Cells::dash_of))]
-fn any_dash(p: Spot, a: Cell, b: Cell, c: Cell, d: Cell) -> bool
+fn any_dash(p: Spot, a: Option<u64>, b: Option<u64>, c: Option<u64>, d: Option<u64>) -> bool
     requires { Weights p }
     ensures { result ≡ dash_of p a b c d }
 {
@@ -100,7 +100,7 @@ fn whole_pascals(w: u64, span: u64) -> u64
 }
 
 // R, or the dash.
-fn tip_at(rows: &[[u16; 7]; 10], p: Spot) -> TipRead
+fn tip_at(rows: &[[u16; 7]; 10], p: Spot) -> Option<u64>
     requires { Printed rows.now × InTable 8 5 p }
     ensures { (result ≡ tip_read_at p) × (numbers.pascals result ≤ resistance_bound) }
 {
@@ -111,14 +111,14 @@ fn tip_at(rows: &[[u16; 7]; 10], p: Spot) -> TipRead
     let c = cell(rows, i + 1, j);
     let d = cell(rows, i + 1, j + 1);
     if any_dash(p, a, b, c, d) {
-        return TipRead::Dashed;
+        return None;
     }
     let w = norm_spots::weigh(p, kpa_of(a), kpa_of(b), kpa_of(c), kpa_of(d));
-    TipRead::Pascals(whole_pascals(w, p.span))
+    Some(whole_pascals(w, p.span))
 }
 
 // At a depth in millimetres, by an index stored as hundredths plus 100.
-pub fn tip_resistance(depth: u64, index: u8) -> TipRead
+pub fn tip_resistance(depth: u64, index: u8) -> Option<u64>
     ensures { (result ≡ tip_read depth index) × (numbers.pascals result ≤ resistance_bound) }
 {
     let p = norm_tip_rows::tip_spot(depth, norm_columns::past(100, index));

@@ -1,5 +1,7 @@
 -- Promises about an edit: kept, what stands where the pile is refused, and that an edit is answered as a calculation of any log with the same
 -- ground, so that a split or a merge changes nothing.
+use Rattle.rules.specs.declared.SandNumbers.{SandNumbers}
+use Rattle.std.specs.Prelude.{Option}
 use mathlib.Core.Path.{◌≡◌, sym, ◌∙◌, ap, ap₂}
 use mathlib.Core.Bool.{true, false}
 use mathlib.Core.List.{List, []}
@@ -8,7 +10,6 @@ use native.Mathlib.Omega.{arith}
 use lib.ListN.{length, replicate}
 use Rattle.rules.specs.declared.Row.{Row}
 use Rattle.rules.specs.declared.Slice.{Slice}
-use Rattle.rules.specs.declared.SandRecord.{SandRecord}
 use Rattle.rules.specs.Base.{refuses, when}
 use Rattle.rules.specs.Limits.{limit_of, table_size}
 use Rattle.rules.specs.Packed.{rows_of, pile_of, slices_bytes, table_bytes}
@@ -36,7 +37,7 @@ pub left_form : (e : Edit) (log pile table : List ℕ) → Accepted e log pile t
 left_form e log pile table h = let a = allowed e log pile table h in rw a.left.limit a.lent.size
 
 -- what an accepted edit replies and the table that it leaves, of the log as it then stands
-module _ (e : Edit) (log pile : List ℕ) (extra : SandRecord) (table : List ℕ) (h : Accepted e log pile table) where
+module _ (e : Edit) (log pile : List ℕ) (extra : Option SandNumbers) (table : List ℕ) (h : Accepted e log pile table) where
   abbrev now : List ℕ
   now = edited_log e log
 
@@ -69,12 +70,12 @@ module _ (e : Edit) (log pile : List ℕ) (extra : SandRecord) (table : List ℕ
       (rw (h, k.1) (ap (with_kept 0) k.0), rw (h, k.1, all, left_form e log pile table h), rw h)
 
 -- two logs of one form and one ground
-fresh_alike : (a b pile : List ℕ) (extra : SandRecord) → table_size (limit_of a) ≡ table_size (limit_of b) → Agree (rows_of a) (rows_of b) → (fresh_answer a pile extra ≡ fresh_answer b pile extra) × (fresh_table a pile extra ≡ fresh_table b pile extra)
+fresh_alike : (a b pile : List ℕ) (extra : Option SandNumbers) → table_size (limit_of a) ≡ table_size (limit_of b) → Agree (rows_of a) (rows_of b) → (fresh_answer a pile extra ≡ fresh_answer b pile extra) × (fresh_table a pile extra ≡ fresh_table b pile extra)
 unfolding fresh_answer fresh_table
 fresh_alike a b pile extra f h = let o = only_millimetres (rows_of a) (rows_of b) (pile_of pile) extra h in (o.0, ap₂ (λ (n : ℕ) (cs : List Slice). table_bytes n cs) f o.1)
 
 -- An accepted edit is answered as a plain calculation of any log that is as deep as the edited one and agrees with it at every millimetre.
-pub same_ground_same_answer : (e : Edit) (log l pile : List ℕ) (extra : SandRecord) (table : List ℕ) → Accepted e log pile table → LentPassed l pile table → Agree (rows_of l) (rows_of (edited_log e log))
+pub same_ground_same_answer : (e : Edit) (log l pile : List ℕ) (extra : Option SandNumbers) (table : List ℕ) → Accepted e log pile table → LentPassed l pile table → Agree (rows_of l) (rows_of (edited_log e log))
     → AsCalculated e log l pile extra table
 unfolding calculated table_after
 same_ground_same_answer e log l pile extra table h g a =
@@ -112,12 +113,12 @@ split_ground k x row log pile table h =
     go (splits q a c m n) = split_same_ground k x row (rows_of log) a c n
 
 -- "Rows do not matter, only millimetres do.": an accepted split leaves the answer and the slice table that the log gives unsplit.
-pub split_changes_nothing : (k x : ℕ) (row log pile : List ℕ) (extra : SandRecord) (table : List ℕ) → Accepted (asked 4 k x row) log pile table → AsCalculated (asked 4 k x row) log log pile extra table
+pub split_changes_nothing : (k x : ℕ) (row log pile : List ℕ) (extra : Option SandNumbers) (table : List ℕ) → Accepted (asked 4 k x row) log pile table → AsCalculated (asked 4 k x row) log log pile extra table
 split_changes_nothing k x row log pile extra table h =
     same_ground_same_answer (asked 4 k x row) log log pile extra table h (lent_passes (asked 4 k x row) log pile table h) (split_ground k x row log pile table h)
 
 -- Two accepted edits that leave logs of the same ground, however these were typed, get equal replies and equal tables.
-pub edited_alike : (e f : Edit) (log l pile : List ℕ) (extra : SandRecord) (table : List ℕ) → Accepted e log pile table → Accepted f l pile table → Agree (rows_of (edited_log e log)) (rows_of (edited_log f l))
+pub edited_alike : (e f : Edit) (log l pile : List ℕ) (extra : Option SandNumbers) (table : List ℕ) → Accepted e log pile table → Accepted f l pile table → Agree (rows_of (edited_log e log)) (rows_of (edited_log f l))
     → (edit_reply e log pile extra table ≡ edit_reply f l pile extra table) × (edit_table e log pile extra table ≡ edit_table f l pile extra table)
 edited_alike e f log l pile extra table h g a =
     let o = fresh_alike (edited_log e log) (edited_log f l) pile extra (sym (left_form e log pile table h) ∙ left_form f l pile table g) a in
@@ -127,7 +128,7 @@ turned : (rs ts : List Row) → Agree rs ts → Agree ts rs
 turned rs ts a = (sym a.0, λ m h. sym (a.1 m (rw a.0 h)))
 
 -- The other way: an accepted edit that leaves as one row what a split would part is answered as a calculation of the parted log.
-pub merge_changes_nothing : (e : Edit) (k x : ℕ) (log pile : List ℕ) (extra : SandRecord) (table : List ℕ) → Accepted e log pile table → Accepted (asked 4 k x []) (edited_log e log) pile table
+pub merge_changes_nothing : (e : Edit) (k x : ℕ) (log pile : List ℕ) (extra : Option SandNumbers) (table : List ℕ) → Accepted e log pile table → Accepted (asked 4 k x []) (edited_log e log) pile table
     → AsCalculated e log (edited_log (asked 4 k x []) (edited_log e log)) pile extra table
 merge_changes_nothing e k x log pile extra table h g =
     let l : List ℕ = edited_log e log in

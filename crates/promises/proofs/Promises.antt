@@ -1,6 +1,8 @@
 -- What Psamathyr promises, in the paper's words. Each function of the door has a contract with no condition: its reply and every byte it
 -- leaves are those of a definition (calculated, table_after, edit_reply, edit_log, edit_table, read_log, packed_log ..). The theorems here are
 -- about those definitions; each is proved by citing the theorem of a crate.
+use Rattle.rules.specs.declared.SandNumbers.{SandNumbers}
+use Rattle.std.specs.Prelude.{Option}
 use mathlib.Core.Path.{◌≡◌, sym, ◌∙◌, ap}
 use mathlib.Core.Bool.{Bool, true, false}
 use mathlib.Core.Logic.{◌⊎◌}
@@ -13,7 +15,6 @@ use Rattle.rules.specs.declared.Soil.{Soil}
 use Rattle.rules.specs.declared.Log.{Log}
 use Rattle.rules.specs.declared.Pile.{Pile}
 use Rattle.rules.specs.declared.Slice.{Slice}
-use Rattle.rules.specs.declared.SandRecord.{SandRecord}
 use Rattle.rules.specs.Base.{refuses, nothing, first}
 use Rattle.rules.specs.Widths.{Fits, Bytes}
 use Rattle.rules.specs.Records.{plain_size, graded_size, slice_widths, slice_fields, slice_size}
@@ -60,36 +61,36 @@ use Rattle.promises.proofs.Room as Room
 -- Demand 1. "Every log, pile record, slice table and edit, however damaged, gets a reply": no contract of the door has a condition.
 
 -- "A calculation checks 1 to 12 .. in order.", 02 (iv): 17 "after 10": the first that refuses is the one replied
-pub first_in_order : (log pile : List ℕ) (extra : SandRecord) (table : List ℕ) → (calculated log pile extra table).refusal ≡ calculation_checks log pile extra table
+pub first_in_order : (log pile : List ℕ) (extra : Option SandNumbers) (table : List ℕ) → (calculated log pile extra table).refusal ≡ calculation_checks log pile extra table
 first_in_order log pile extra table = OrderLaws.calculation_refusal log pile extra table
 
 -- "An edit checks 1 to 4 of what is lent, 13, 14, then 3 for its new row (row number k), then 4 for the new log; these refuse the edit. After
 -- that 5 to 12 .. refuse nothing: they become the held answer."
-pub first_in_order_of_an_edit : (e : Edit) (log pile : List ℕ) (extra : SandRecord) (table : List ℕ)
+pub first_in_order_of_an_edit : (e : Edit) (log pile : List ℕ) (extra : Option SandNumbers) (table : List ℕ)
     → (edit_reply e log pile extra table).refusal ≡ first (edit_checks e log pile table) (ground_checks (soil_at (rows_of (edited_log e log))) (depth_of (rows_of (edited_log e log))) (pile_of pile) extra)
 first_in_order_of_an_edit e log pile extra table = OrderLaws.edit_refusal e log pile extra table
 
 -- each check of these lists refuses with its own number, or tells nothing
-pub listed : (wrong : Bool) (e : Edit) (log : List ℕ) (g : ℕ → Soil) (depth : ℕ) (p : Pile) (extra : SandRecord)
+pub listed : (wrong : Bool) (e : Edit) (log : List ℕ) (g : ℕ → Soil) (depth : ℕ) (p : Pile) (extra : Option SandNumbers)
     → Numbered (1 ∷ 2 ∷ 3 ∷ 4 ∷ 5 ∷ 6 ∷ 7 ∷ 8 ∷ 9 ∷ 10 ∷ 17 ∷ 11 ∷ 12 ∷ []) (one_to_four wrong log ++ five_on g depth p extra)
     × Numbered (1 ∷ 2 ∷ 3 ∷ 4 ∷ 13 ∷ 14 ∷ 3 ∷ 4 ∷ []) (one_to_four wrong log ++ thirteen_on e log)
 listed wrong e log g depth p extra = (ListedLaws.calculation_listed wrong log g depth p extra, ListedLaws.edit_listed wrong e log)
 
 -- so these numbers are replied and no other, and a refused edit and an accepted one that holds a refusal differ by the number
-pub told_by_number : (e : Edit) (log pile : List ℕ) (extra : SandRecord) (table : List ℕ) (g : ℕ → Soil) (depth : ℕ) (p : Pile)
+pub told_by_number : (e : Edit) (log pile : List ℕ) (extra : Option SandNumbers) (table : List ℕ) (g : ℕ → Soil) (depth : ℕ) (p : Pile)
     → (OneOf (1 ∷ 2 ∷ 3 ∷ 4 ∷ 5 ∷ 6 ∷ 7 ∷ 8 ∷ 9 ∷ 10 ∷ 17 ∷ 11 ∷ 12 ∷ []) (calculation_checks log pile extra table).number ⊎ (calculation_checks log pile extra table ≡ nothing))
     × (OneOf (1 ∷ 2 ∷ 3 ∷ 4 ∷ 13 ∷ 14 ∷ 3 ∷ 4 ∷ []) (edit_checks e log pile table).number ⊎ (edit_checks e log pile table ≡ nothing))
     × (OneOf (5 ∷ 6 ∷ 7 ∷ 8 ∷ 9 ∷ 10 ∷ 17 ∷ 11 ∷ 12 ∷ []) (ground_checks g depth p extra).number ⊎ (ground_checks g depth p extra ≡ nothing))
 told_by_number e log pile extra table g depth p = (ListedLaws.calculation_number log pile extra table, ListedLaws.edit_number e log pile table, ListedLaws.ground_number g depth p extra)
 
 -- "a calculation refused by 1 to 4, changes no buffer", "zeros for line, tip, shaft, capacity, uplift and kept"
-pub refused_calculation : (log pile : List ℕ) (extra : SandRecord) (table : List ℕ) → refuses (lent_checks log pile table) ≡ true
+pub refused_calculation : (log pile : List ℕ) (extra : Option SandNumbers) (table : List ℕ) → refuses (lent_checks log pile table) ≡ true
     → (calculated log pile extra table ≡ refused (lent_checks log pile table)) × (table_after log pile extra table ≡ table)
 unfolding calculated table_after
 refused_calculation log pile extra table h = (rw h, rw h)
 
 -- "Under 5 to 12 .. the table becomes all zero"
-pub refused_pile : (log pile : List ℕ) (extra : SandRecord) (table : List ℕ) → LentPassed log pile table → refuses (calculated log pile extra table).refusal ≡ true
+pub refused_pile : (log pile : List ℕ) (extra : Option SandNumbers) (table : List ℕ) → LentPassed log pile table → refuses (calculated log pile extra table).refusal ≡ true
     → (calculated log pile extra table ≡ refused (calculated log pile extra table).refusal) × (table_after log pile extra table ≡ replicate (table_size (limit_of log)) 0)
 unfolding calculated table_after fresh_answer fresh_table answer_of held_slices_of table_bytes slices_bytes
 refused_pile log pile extra table h g =
@@ -99,13 +100,13 @@ refused_pile log pile extra table h g =
     (rw h k.0, rw h (ap (table_bytes size) k.1 ∙ ap (λ (n : ℕ). replicate {A = ℕ} n 0) z))
 
 -- "A refused edit .. changes no buffer."
-pub refused_edit_lem : (e : Edit) (log pile : List ℕ) (extra : SandRecord) (table : List ℕ) → refuses (edit_checks e log pile table) ≡ true
+pub refused_edit_lem : (e : Edit) (log pile : List ℕ) (extra : Option SandNumbers) (table : List ℕ) → refuses (edit_checks e log pile table) ≡ true
     → (edit_reply e log pile extra table ≡ refused (edit_checks e log pile table)) × (edit_log e log pile table ≡ log) × (edit_table e log pile extra table ≡ table)
 unfolding edit_reply edit_log edit_table
 refused_edit_lem e log pile extra table h = (rw h, rw h, rw h)
 
 -- "Under 5 to 12 .. the table becomes all zero; the log holds the edit": and "zeros for line, tip, shaft, capacity, uplift and kept"
-pub refused_pile_of_an_edit : (e : Edit) (log pile : List ℕ) (extra : SandRecord) (table : List ℕ) → Accepted e log pile table → refuses (edit_reply e log pile extra table).refusal ≡ true
+pub refused_pile_of_an_edit : (e : Edit) (log pile : List ℕ) (extra : Option SandNumbers) (table : List ℕ) → Accepted e log pile table → refuses (edit_reply e log pile extra table).refusal ≡ true
     → (edit_reply e log pile extra table ≡ refused (edit_reply e log pile extra table).refusal) × (edit_table e log pile extra table ≡ replicate (length table) 0) × (edit_log e log pile table ≡ edited_log e log)
 refused_pile_of_an_edit e log pile extra table h g = Edits.pile_refused e log pile extra table h g
 
@@ -130,16 +131,16 @@ worked_edits_lem = KnownEdits.worked_edits_lem
 
 -- "a log that passes the checks has its numbers": a pile stands in its ground where what 01 asks of it holds (Sound, in facts), and then the
 -- reply is the five numbers and the table holds the slices of the shaft; and only a pile that stands is not refused.
-pub numbers_where_sound : (log pile : List ℕ) (extra : SandRecord) (table : List ℕ) → LentPassed log pile table → Sound (soil_at (rows_of log)) (depth_of (rows_of log)) (pile_of pile) extra
+pub numbers_where_sound : (log pile : List ℕ) (extra : Option SandNumbers) (table : List ℕ) → LentPassed log pile table → Sound (soil_at (rows_of log)) (depth_of (rows_of log)) (pile_of pile) extra
     → (calculated log pile extra table ≡ numbers (soil_at (rows_of log) (below_tip (pile_of pile))) (pile_of pile) (resistance (pile_of pile) extra (soil_at (rows_of log) (below_tip (pile_of pile)))) (line_of (shaft_slices (soil_at (rows_of log)) (pile_of pile))))
     × (table_after log pile extra table ≡ table_bytes (table_size (limit_of log)) (shaft_slices (soil_at (rows_of log)) (pile_of pile)))
 numbers_where_sound log pile extra table h s = SoundLaws.sound_numbers log pile extra table h s
 
-pub sound_where_not_refused : (g : ℕ → Soil) (depth : ℕ) (p : Pile) (extra : SandRecord) → p.grade < 2 ^ 16 → refuses (ground_checks g depth p extra) ≡ false → Sound g depth p extra
+pub sound_where_not_refused : (g : ℕ → Soil) (depth : ℕ) (p : Pile) (extra : Option SandNumbers) → p.grade < 2 ^ 16 → refuses (ground_checks g depth p extra) ≡ false → Sound g depth p extra
 sound_where_not_refused g depth p extra b h = SoundLaws.passes_sound g depth p extra b h
 
 -- A log that passes the checks has the numbers and the slices of its ground, millimetre by millimetre.
-pub answered : (log pile : List ℕ) (extra : SandRecord) (table : List ℕ) → LentPassed log pile table
+pub answered : (log pile : List ℕ) (extra : Option SandNumbers) (table : List ℕ) → LentPassed log pile table
     → (calculated log pile extra table ≡ answer (soil_at (rows_of log)) (depth_of (rows_of log)) (pile_of pile) extra)
     × (table_after log pile extra table ≡ table_bytes (table_size (limit_of log)) (held_slices (soil_at (rows_of log)) (depth_of (rows_of log)) (pile_of pile) extra))
 unfolding calculated table_after fresh_answer fresh_table answer_of held_slices_of
@@ -155,7 +156,7 @@ pub top_of_stratum : (g : ℕ → Soil) (m depth : ℕ) → m < depth → run_to
 top_of_stratum g m depth h = StratumLaws.top_of_stratum g m depth h
 
 -- "Slice thicknesses add up to tip less head."
-pub slices_add_up : (log pile : List ℕ) (extra : SandRecord) (table : List ℕ) → refuses (calculated log pile extra table).refusal ≡ false
+pub slices_add_up : (log pile : List ℕ) (extra : Option SandNumbers) (table : List ℕ) → refuses (calculated log pile extra table).refusal ≡ false
     → thickness_sum (held_slices (soil_at (rows_of log)) (depth_of (rows_of log)) (pile_of pile) extra) ≡ (pile_of pile).tip - (pile_of pile).head
 unfolding held_slices
 slices_add_up log pile extra table h =
@@ -167,7 +168,7 @@ pub friction_whole : (s : Soil) (mid : ℕ) → metre ≤ mid → friction s mid
 friction_whole s mid h = TableLaws.friction_whole s mid h
 
 -- "how many leading slices of the new table already had the same seven bytes at the same place in the lent table": of the two tables alone
-pub kept_is : (e : Edit) (log pile : List ℕ) (extra : SandRecord) (table : List ℕ) → Accepted e log pile table → (edit_reply e log pile extra table).kept ≡ kept_of (edit_table e log pile extra table) table
+pub kept_is : (e : Edit) (log pile : List ℕ) (extra : Option SandNumbers) (table : List ℕ) → Accepted e log pile table → (edit_reply e log pile extra table).kept ≡ kept_of (edit_table e log pile extra table) table
 kept_is e log pile extra table h = Edits.kept_of_two e log pile extra table h
 
 -- "records round-trip both ways": fields in range pack into a buffer of the right length, and are read from it; and what is read of bytes packs
@@ -202,7 +203,7 @@ pub slice_round_trip_back : (s : List ℕ) (i : ℕ) → Bytes s → length s �
 slice_round_trip_back s i b h l = SliceTrip.place_back s i b h l
 
 -- "An accepted edit changes the log": the log is the edited one, the table and the answer are those worked out afresh of it
-pub accepted_edit : (e : Edit) (log pile : List ℕ) (extra : SandRecord) (table : List ℕ) → Accepted e log pile table
+pub accepted_edit : (e : Edit) (log pile : List ℕ) (extra : Option SandNumbers) (table : List ℕ) → Accepted e log pile table
     → (edit_log e log pile table ≡ edited_log e log) × (edit_table e log pile extra table ≡ fresh_table (edited_log e log) pile extra)
     × (edit_reply e log pile extra table ≡ with_kept (kept_of (edit_table e log pile extra table) table) (fresh_answer (edited_log e log) pile extra))
 accepted_edit e log pile extra table h = Edits.accepted_edit e log pile extra table h
@@ -223,16 +224,16 @@ pub afresh_is : (c : Call) (lent now : Desk) → Afresh c lent now
 afresh_is c lent now a = let k = answered now.log c.pile c.extra now.table a.pieces in (sym a.answer ∙ k.0, sym a.table ∙ k.1)
 
 -- "So two logs that agree at every millimetre give equal answers and tables, however typed."
-pub however_typed : (a b pile : List ℕ) (extra : SandRecord) (t u : List ℕ) → LentPassed a pile t → LentPassed b pile u → Agree (rows_of a) (rows_of b)
+pub however_typed : (a b pile : List ℕ) (extra : Option SandNumbers) (t u : List ℕ) → LentPassed a pile t → LentPassed b pile u → Agree (rows_of a) (rows_of b)
     → (calculated a pile extra t ≡ calculated b pile extra u) × (table_after a pile extra t ≡ table_after b pile extra u)
 however_typed a b pile extra t u p q h = RunLaws.however_typed a b pile extra t u p q h
 
 -- "Rows do not matter, only millimetres do.": an accepted split is answered as a calculation of the log unsplit, and an edit that leaves as one
 -- row what a split would part as a calculation of the log in parts.
-pub split_changes_nothing : (k x : ℕ) (row log pile : List ℕ) (extra : SandRecord) (table : List ℕ) → Accepted (asked 4 k x row) log pile table → AsCalculated (asked 4 k x row) log log pile extra table
+pub split_changes_nothing : (k x : ℕ) (row log pile : List ℕ) (extra : Option SandNumbers) (table : List ℕ) → Accepted (asked 4 k x row) log pile table → AsCalculated (asked 4 k x row) log log pile extra table
 split_changes_nothing k x row log pile extra table h = Edits.split_changes_nothing k x row log pile extra table h
 
-pub merge_changes_nothing : (e : Edit) (k x : ℕ) (log pile : List ℕ) (extra : SandRecord) (table : List ℕ) → Accepted e log pile table → Accepted (asked 4 k x []) (edited_log e log) pile table
+pub merge_changes_nothing : (e : Edit) (k x : ℕ) (log pile : List ℕ) (extra : Option SandNumbers) (table : List ℕ) → Accepted e log pile table → Accepted (asked 4 k x []) (edited_log e log) pile table
     → AsCalculated e log (edited_log (asked 4 k x []) (edited_log e log)) pile extra table
 merge_changes_nothing e k x log pile extra table h g = Edits.merge_changes_nothing e k x log pile extra table h g
 
@@ -243,7 +244,7 @@ pub eight_bytes : (s : List ℕ) → length s ≡ plain_size → ((pile_of s).gr
 eight_bytes s h = (GradeLaws.plain_level s (omega arith), GradeLaws.pile_behind s 2)
 
 -- a record of eight bytes and one of ten that hold the same fields are answered alike, in a calculation and in an edit, and leave the same bytes
-pub either_length : (e : Edit) (a b : List ℕ) (extra : SandRecord) (log table : List ℕ) → length a ≡ plain_size → length b ≡ graded_size → pile_of a ≡ pile_of b
+pub either_length : (e : Edit) (a b : List ℕ) (extra : Option SandNumbers) (log table : List ℕ) → length a ≡ plain_size → length b ≡ graded_size → pile_of a ≡ pile_of b
     → (calculated log a extra table ≡ calculated log b extra table) × (table_after log a extra table ≡ table_after log b extra table)
     × (edit_reply e log a extra table ≡ edit_reply e log b extra table) × (edit_log e log a table ≡ edit_log e log b table) × (edit_table e log a extra table ≡ edit_table e log b extra table)
 either_length e a b extra log table h k f = (
@@ -256,7 +257,7 @@ either_length e a b extra log table h k f = (
 
 -- "Up to 3,000 either way, tables are read as before.": answer and slices are those of grade 0, where no cut bares the head (7). A sand tip's h is
 -- less every cut (02 (iv)), so there it is of fills
-pub small_grade : (g : ℕ → Soil) (depth : ℕ) (p : Pile) (extra : SandRecord) → cut_depth p.grade ≤ free_grade → fill_height p.grade ≤ free_grade → cut_depth p.grade ≤ p.head
+pub small_grade : (g : ℕ → Soil) (depth : ℕ) (p : Pile) (extra : Option SandNumbers) → cut_depth p.grade ≤ free_grade → fill_height p.grade ≤ free_grade → cut_depth p.grade ≤ p.head
     → (sand (g (below_tip p)) ≡ true → cut_depth p.grade ≡ 0)
     → (answer g depth p extra ≡ answer g depth (with_grade 0 p) extra) × (held_slices g depth p extra ≡ held_slices g depth (with_grade 0 p) extra)
 small_grade g depth p extra c f h t = (GradeLaws.answer_level p c f h g depth extra t, GradeLaws.held_level p c f h g depth extra t)
@@ -267,22 +268,22 @@ pub always_room : (rs : List Row) (p : Pile) (n : ℕ) → length rs ≤ n → p
 always_room rs p n k d h = RoomLaws.slices_room rs p n k d h
 
 -- so what is held of lent bytes has places in the table that goes with the log
-pub slices_have_places : (log pile : List ℕ) (extra : SandRecord) (table : List ℕ) → LentPassed log pile table → length (held_slices (soil_at (rows_of log)) (depth_of (rows_of log)) (pile_of pile) extra) ≤ places_for (limit_of log)
+pub slices_have_places : (log pile : List ℕ) (extra : Option SandNumbers) (table : List ℕ) → LentPassed log pile table → length (held_slices (soil_at (rows_of log)) (depth_of (rows_of log)) (pile_of pile) extra) ≤ places_for (limit_of log)
 slices_have_places log pile extra table h = Room.places_enough log pile extra table h
 
 -- and, whatever is lent, a calculation and an edit leave the table as long as it was
-pub table_keeps_its_length : (e : Edit) (log pile : List ℕ) (extra : SandRecord) (table : List ℕ) → (length (table_after log pile extra table) ≡ length table) × (length (edit_table e log pile extra table) ≡ length table)
+pub table_keeps_its_length : (e : Edit) (log pile : List ℕ) (extra : Option SandNumbers) (table : List ℕ) → (length (table_after log pile extra table) ≡ length table) × (length (edit_table e log pile extra table) ≡ length table)
 table_keeps_its_length e log pile extra table = (Room.calculation_long log pile extra table, Room.edit_long e log pile extra table)
 
 -- Request (iv) of 02. "The record counts as part of the pile record in demand 3": every theorem above has it. Beside them:
 
 -- "ignored over clay": whatever record comes, the answer and the slices are the same
-pub record_ignored_over_clay : (g : ℕ → Soil) (depth : ℕ) (p : Pile) (x y : SandRecord) → sand (g (below_tip p)) ≡ false
+pub record_ignored_over_clay : (g : ℕ → Soil) (depth : ℕ) (p : Pile) (x y : Option SandNumbers) → sand (g (below_tip p)) ≡ false
     → (answer g depth p x ≡ answer g depth p y) × (held_slices g depth p x ≡ held_slices g depth p y)
 record_ignored_over_clay g depth p x y h = (SandLaws.answer_alike g depth p x y h, SandLaws.slices_alike g depth p x y h)
 
 -- "R is capped by table 7.2 there"
-pub sand_below_cap : (p : Pile) (extra : SandRecord) (s : Soil) → sand s ≡ true → resistance p extra s ≤ sand_cap s.kind (tip_of p)
+pub sand_below_cap : (p : Pile) (extra : Option SandNumbers) (s : Soil) → sand s ≡ true → resistance p extra s ≤ sand_cap s.kind (tip_of p)
 sand_below_cap p extra s h = SandLaws.below_cap p extra s h
 
 -- "A sand tip's capacity takes × 1": whatever its saturation

@@ -1,4 +1,6 @@
 -- Kept of the two tables alone: the used places of a table of slices are those that have a thickness.
+use Rattle.rules.specs.declared.SandNumbers.{SandNumbers}
+use Rattle.std.specs.Prelude.{Option}
 use mathlib.Core.Path.{◌≡◌, refl, sym}
 use mathlib.Core.List.{List, [], ◌∷◌, ◌++◌, append_assoc}
 use Prim.Native.Nat.{ℕ, zero, suc, ◌+◌, ◌*◌, ◌-◌, ◌/◌, ◌<◌, ◌≤◌}
@@ -6,7 +8,6 @@ use native.Mathlib.Omega.{arith}
 use lib.ListN.{length, drop, replicate, length-append, length-replicate}
 use borrow.Author.Tests.{lt-ltb}
 use Rattle.rules.specs.declared.Slice.{Slice}
-use Rattle.rules.specs.declared.SandRecord.{SandRecord}
 use Rattle.rules.specs.Widths.{Fits}
 use Rattle.rules.specs.Records.{slice_size, slice_widths, slice_fields}
 use Rattle.rules.specs.Limits.{limit_of, places_for}
@@ -56,7 +57,7 @@ kept_of_lem places cs lent f h =
     rw (e, long) (in_places cs m lent f)
 
 -- of the table that a log past its checks gives
-pub kept_is : (log pile : List ℕ) (extra : SandRecord) (table : List ℕ) → Passed log → kept (used_slices log pile extra) (fresh_table log pile extra) table ≡ kept_of (fresh_table log pile extra) table
+pub kept_is : (log pile : List ℕ) (extra : Option SandNumbers) (table : List ℕ) → Passed log → kept (used_slices log pile extra) (fresh_table log pile extra) table ≡ kept_of (fresh_table log pile extra) table
 unfolding fresh_table
 kept_is log pile extra table p =
     let cs = held_slices_of (rows_of log) (pile_of pile) extra in

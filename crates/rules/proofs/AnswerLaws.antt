@@ -1,4 +1,6 @@
 -- The answer and the slices by rows are those by millimetres; only millimetres matter.
+use Rattle.rules.specs.declared.SandNumbers.{SandNumbers}
+use Rattle.std.specs.Prelude.{Option}
 use mathlib.Core.Path.{◌≡◌, refl, sym, ◌∙◌, ap, ap₂}
 use mathlib.Core.Bool.{Bool, true, false, true≢false}
 use mathlib.Core.Logic.{⊎_elim}
@@ -13,7 +15,6 @@ use Rattle.rules.specs.declared.Pile.{Pile}
 use Rattle.rules.specs.declared.Slice.{Slice}
 use Rattle.rules.specs.declared.Answer.{Answer}
 use Rattle.rules.specs.declared.Refusal.{Refusal}
-use Rattle.rules.specs.declared.SandRecord.{SandRecord}
 use Rattle.rules.specs.Base.{pick, refuses, first, when}
 use Rattle.rules.specs.Limits.{tip_limit}
 use Rattle.rules.specs.Grades.{cut_depth}
@@ -59,7 +60,7 @@ clear depth p e =
     }
 
 -- a refusal by 5 to 8 asks for nothing else
-early_alone : (depth : ℕ) (at at' : Soil) (top top' : ℕ) (cut cut' : List Slice) (p : Pile) (extra : SandRecord) → refuses (early depth p) ≡ true
+early_alone : (depth : ℕ) (at at' : Soil) (top top' : ℕ) (cut cut' : List Slice) (p : Pile) (extra : Option SandNumbers) → refuses (early depth p) ≡ true
     → (answer_from depth at top cut p extra ≡ answer_from depth at' top' cut' p extra) × (slices_from depth at top cut p extra ≡ slices_from depth at' top' cut' p extra)
 unfolding answer_from slices_from checks_from first
 early_alone depth at at' top top' cut cut' p extra h = (simp h, simp h)
@@ -69,7 +70,7 @@ module _ (rs : List Row) (p : Pile) (w : Positive rs) where
   unfolding pieces
   cuts_are c = ap (slice_each p) (by_rows rs (p.tip - p.head) p.head (p.tip - p.head) w (omega arith) (omega (arith, c.order, c.deep)))
 
-module _ (rs : List Row) (p : Pile) (extra : SandRecord) (w : Positive rs) where
+module _ (rs : List Row) (p : Pile) (extra : Option SandNumbers) (w : Positive rs) where
   both_rows : (answer_rows rs p extra ≡ answer_of rs p extra) × (slices_rows rs p extra ≡ held_slices_of rs p extra)
   unfolding answer_rows answer_of slices_rows held_slices_of
   both_rows =
@@ -92,7 +93,7 @@ module _ (rs : List Row) (p : Pile) (extra : SandRecord) (w : Positive rs) where
   slices_by_rows = both_rows.1
 
 -- Two logs that are equally deep and agree at every millimetre have equal answers and equal slices for the same pile record.
-pub only_millimetres : (rs ts : List Row) (p : Pile) (extra : SandRecord) → Agree rs ts → (answer_of rs p extra ≡ answer_of ts p extra) × (held_slices_of rs p extra ≡ held_slices_of ts p extra)
+pub only_millimetres : (rs ts : List Row) (p : Pile) (extra : Option SandNumbers) → Agree rs ts → (answer_of rs p extra ≡ answer_of ts p extra) × (held_slices_of rs p extra ≡ held_slices_of ts p extra)
 unfolding answer_of held_slices_of
 only_millimetres rs ts p extra h = (
   ap₂ (λ (g : ℕ → Soil) (d : ℕ). answer g d p extra) (one_ground rs ts h) h.0,
@@ -100,7 +101,7 @@ only_millimetres rs ts p extra h = (
 )
 
 -- under 5 to 12 and 17 every number is zero, and no slice is held
-module _ (g : ℕ → Soil) (depth : ℕ) (p : Pile) (extra : SandRecord) where
+module _ (g : ℕ → Soil) (depth : ℕ) (p : Pile) (extra : Option SandNumbers) where
   refused_by_lem : (t : Bool) (r : Refusal) (full : Answer) → refuses full.refusal ≡ false → t ≡ refuses r → refuses (pick t (refused r) full).refusal ≡ true
       → (pick t (refused r) full ≡ refused (pick t (refused r) full).refusal) × (pick t [] (shaft_slices g p) ≡ [])
   refused_by_lem true r full f e h = (refl, refl)

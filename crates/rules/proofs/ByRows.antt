@@ -1,12 +1,13 @@
 -- The same by rows, for the engine and its laws: how far a soil goes on below a millimetre, one piece at a time, and a stratum's top.
 -- These are not the paper's words: RowLaws, SeatLaws and AnswerLaws prove them equal to the millimetre definitions.
+use Rattle.rules.specs.declared.SandNumbers.{SandNumbers}
+use Rattle.std.specs.Prelude.{Option}
 use mathlib.Core.List.{List, [], ◌∷◌}
 use Prim.Native.Nat.{ℕ, zero, suc, ◌+◌, ◌-◌, ◌<◌, min}
 use lib.Dec.{ltb}
 use Rattle.rules.specs.declared.Row.{Row}
 use Rattle.rules.specs.declared.Soil.{Soil}
 use Rattle.rules.specs.declared.Pile.{Pile}
-use Rattle.rules.specs.declared.SandRecord.{SandRecord}
 use Rattle.rules.specs.declared.Slice.{Slice}
 use Rattle.rules.specs.declared.Answer.{Answer}
 use Rattle.rules.specs.Base.{pick}
@@ -60,8 +61,8 @@ top_at rs m = top_from rs none 0 0 m
 abbrev pub cuts_of : List Row → Pile → List Slice
 cuts_of rs p = slice_each p (cuts rs (p.tip - p.head) p.head (p.tip - p.head))
 
-unfoldable pub answer_rows : List Row → Pile → SandRecord → Answer
+unfoldable pub answer_rows : List Row → Pile → Option SandNumbers → Answer
 answer_rows rs p extra = answer_from (depth_of rs) (soil_at rs (below_tip p)) (top_at rs (below_tip p)) (cuts_of rs p) p extra
 
-unfoldable pub slices_rows : List Row → Pile → SandRecord → List Slice
+unfoldable pub slices_rows : List Row → Pile → Option SandNumbers → List Slice
 slices_rows rs p extra = slices_from (depth_of rs) (soil_at rs (below_tip p)) (top_at rs (below_tip p)) (cuts_of rs p) p extra

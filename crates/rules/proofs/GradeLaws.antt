@@ -1,4 +1,6 @@
 -- A pile record's grade: behind its other fields, and 0 where the record ends before it; and readings that a small grade does not move.
+use Rattle.rules.specs.declared.SandNumbers.{SandNumbers}
+use Rattle.std.specs.Prelude.{Option, None, Some}
 use mathlib.Core.Path.{◌≡◌, refl, ap, ap₂, sym, ◌∙◌}
 use mathlib.Core.Bool.{Bool, true, false}
 use mathlib.Core.List.{List, [], ◌∷◌, ◌++◌}
@@ -10,8 +12,6 @@ use lib.ListN.{length, get_or, replicate, get_or-eq_default}
 use Rattle.rules.specs.declared.Soil.{Soil}
 use Rattle.rules.specs.declared.Pile.{Pile}
 use Rattle.rules.specs.declared.Slice.{Slice}
-use Rattle.rules.specs.declared.SandRecord.{SandRecord}
-use Rattle.rules.specs.declared.SandRecord.TheVariants.{Absent, Given}
 use Rattle.rules.specs.Widths.{fields_of}
 use Rattle.rules.specs.Records.{plain_widths, plain_size, graded_widths, graded_size, pile_from}
 use Rattle.rules.specs.Limits.{tip_limit, free_grade}
@@ -88,7 +88,7 @@ module _ (p : Pile) (c : cut_depth p.grade ≤ free_grade) (f : fill_height p.gr
         ap₂ (λ (x : Bool) (y : ℕ). either (leb p.tip p.head) (either (ltb p.tip 3000) (either (ltb tip_limit p.tip) (either x (ltb tip_limit y))))) bare (as_level 1 p.tip)
 
     -- of a sand tip, where there is no cut at all: "Here h is the tip depth, less the cut if there is one."
-    module _ (g : ℕ → Soil) (depth : ℕ) (extra : SandRecord) (t : sand (g (below_tip p)) ≡ true → cut_depth p.grade ≡ 0) where
+    module _ (g : ℕ → Soil) (depth : ℕ) (extra : Option SandNumbers) (t : sand (g (below_tip p)) ≡ true → cut_depth p.grade ≡ 0) where
       abbrev soil : Soil
       soil = g (below_tip p)
 
@@ -98,10 +98,10 @@ module _ (p : Pile) (c : cut_depth p.grade ≤ free_grade) (f : fill_height p.gr
       off_level : sand_wrong soil p extra ≡ sand_wrong soil level extra
       off_level = go (sand soil) extra height_level
         where
-          go : (b : Bool) (x : SandRecord) → (b ≡ true → tip_from_cut p ≡ tip_from_cut level) → both b (record_wrong p x) ≡ both b (record_wrong level x)
+          go : (b : Bool) (x : Option SandNumbers) → (b ≡ true → tip_from_cut p ≡ tip_from_cut level) → both b (record_wrong p x) ≡ both b (record_wrong level x)
           go false x k = refl
-          go true Absent k = refl
-          go true (Given r) k = rw (k refl)
+          go true None k = refl
+          go true (Some r) k = rw (k refl)
 
       resistance_level : resistance p extra soil ≡ resistance level extra soil
       unfolding resistance
@@ -110,11 +110,11 @@ module _ (p : Pile) (c : cut_depth p.grade ≤ free_grade) (f : fill_height p.gr
           clay : pascals (tip_read (tip_of p) soil.index) ≡ pascals (tip_read (tip_of level) soil.index)
           clay = ap (λ (d : ℕ). pascals (tip_read d soil.index)) (as_level 1 p.tip)
 
-          go : (b : Bool) (x : SandRecord) → (b ≡ true → tip_from_cut p ≡ tip_from_cut level)
+          go : (b : Bool) (x : Option SandNumbers) → (b ≡ true → tip_from_cut p ≡ tip_from_cut level)
               → pick b (sand_pascals p x soil) (pascals (tip_read (tip_of p) soil.index)) ≡ pick b (sand_pascals level x soil) (pascals (tip_read (tip_of level) soil.index))
           go false x k = clay
-          go true Absent k = refl
-          go true (Given r) k = ap₂ (λ (h d : ℕ). sand_resistance r h p.a soil.kind d) (k refl) (as_level 1 p.tip)
+          go true None k = refl
+          go true (Some r) k = ap₂ (λ (h d : ℕ). sand_resistance r h p.a soil.kind d) (k refl) (as_level 1 p.tip)
 
       cut_level : shaft_slices g p ≡ shaft_slices g level
       cut_level = slices_level (pieces g p.head p.tip)
@@ -145,7 +145,7 @@ module _ (p : Pile) (c : cut_depth p.grade ≤ free_grade) (f : fill_height p.gr
       held_level = λ i. pick (refuses (checks_level i)) [] (cut_level i)
 
 -- A record of eight bytes and one of ten that hold the same fields: no reply, and no byte, tells them apart.
-module _ (a b : List ℕ) (h : length a ≡ plain_size) (k : length b ≡ graded_size) (e : pile_of a ≡ pile_of b) (extra : SandRecord) (log table : List ℕ) where
+module _ (a b : List ℕ) (h : length a ≡ plain_size) (k : length b ≡ graded_size) (e : pile_of a ≡ pile_of b) (extra : Option SandNumbers) (log table : List ℕ) where
   lent_same : lengths_wrong log a table ≡ lengths_wrong log b table
   lent_same = rw (h, k)
 

@@ -1,4 +1,6 @@
 -- The engine's own grouping of the checks, and that it comes to the lists of Checks.
+use Rattle.rules.specs.declared.SandNumbers.{SandNumbers}
+use Rattle.std.specs.Prelude.{Option}
 use mathlib.Core.Path.{◌≡◌, refl}
 use mathlib.Core.Bool.{Bool, true, false}
 use mathlib.Core.List.{List, [], ◌∷◌}
@@ -8,7 +10,6 @@ use lib.ListN.{length}
 use Rattle.rules.specs.declared.Refusal.{Refusal}
 use Rattle.rules.specs.declared.Soil.{Soil}
 use Rattle.rules.specs.declared.Pile.{Pile}
-use Rattle.rules.specs.declared.SandRecord.{SandRecord}
 use Rattle.rules.specs.declared.Slice.{Slice}
 use Rattle.rules.specs.declared.Answer.{Answer}
 use Rattle.rules.specs.Base.{pick, either, nothing, refuses, when, first, in_order}
@@ -38,7 +39,7 @@ unfoldable pub early : ℕ → Pile → Refusal
 early depth p = first (pile_checks p) (first (when (depths_wrong p) 7) (when (log_short depth p) 8))
 
 -- 9 to 12 and 17, by the soil just below the tip and the top of its stratum
-unfoldable pub late : Soil → ℕ → Pile → SandRecord → Refusal
+unfoldable pub late : Soil → ℕ → Pile → Option SandNumbers → Refusal
 late soil top p extra =
     first (when (sand_unread soil p extra) 9)
     (first (when (seat_short top p) 10)
@@ -47,7 +48,7 @@ late soil top p extra =
     (when (dashed soil p) 12))))
 
 -- of a sand tip 9, 10 and 17, of a clay tip 10 to 12
-unfoldable pub late_in_sand : ℕ → Pile → SandRecord → Refusal
+unfoldable pub late_in_sand : ℕ → Pile → Option SandNumbers → Refusal
 late_in_sand top p extra =
     first (when (either (absent extra) (eqb p.section 2)) 9)
     (first (when (seat_short top p) 10)
@@ -60,16 +61,16 @@ late_in_clay soil top p =
     (when (is_dash (tip_read (tip_of p) soil.index)) 12))
 
 -- 5 to 12 and 17; the answer and the slices held
-unfoldable pub checks_from : ℕ → Soil → ℕ → Pile → SandRecord → Refusal
+unfoldable pub checks_from : ℕ → Soil → ℕ → Pile → Option SandNumbers → Refusal
 checks_from depth soil top p extra = first (early depth p) (late soil top p extra)
 
-unfoldable pub answer_from : ℕ → Soil → ℕ → List Slice → Pile → SandRecord → Answer
+unfoldable pub answer_from : ℕ → Soil → ℕ → List Slice → Pile → Option SandNumbers → Answer
 answer_from depth soil top cut p extra =
     let r = checks_from depth soil top p extra in
     let full = numbers soil p (resistance p extra soil) (line_of cut) in
     pick (refuses r) (refused r) full
 
-unfoldable pub slices_from : ℕ → Soil → ℕ → List Slice → Pile → SandRecord → List Slice
+unfoldable pub slices_from : ℕ → Soil → ℕ → List Slice → Pile → Option SandNumbers → List Slice
 slices_from depth soil top cut p extra = let r = checks_from depth soil top p extra in pick (refuses r) [] cut
 
 -- 13, 14, 3 of the new row and 4 of the new log
@@ -106,7 +107,7 @@ unfolding pack_pile_check pile_checks
 pack_pile_grouped p s = refl
 
 -- of a ground g
-module _ (g : ℕ → Soil) (depth : ℕ) (p : Pile) (extra : SandRecord) where
+module _ (g : ℕ → Soil) (depth : ℕ) (p : Pile) (extra : Option SandNumbers) where
   pub ground_grouped : ground_checks g depth p extra ≡ checks_from depth (g (below_tip p)) (run_top g (g (below_tip p)) (below_tip p)) p extra
   unfolding ground_checks checks_from early late pile_checks
   ground_grouped = rw (first_assoc, first_assoc, first_assoc)
@@ -120,7 +121,7 @@ module _ (g : ℕ → Soil) (depth : ℕ) (p : Pile) (extra : SandRecord) where
   slices_grouped = rw ground_grouped
 
 -- the checks of a tip by its soil
-pub late_in_sand_lem : (soil : Soil) (top : ℕ) (p : Pile) (extra : SandRecord) → sand soil ≡ true → late soil top p extra ≡ late_in_sand top p extra
+pub late_in_sand_lem : (soil : Soil) (top : ℕ) (p : Pile) (extra : Option SandNumbers) → sand soil ≡ true → late soil top p extra ≡ late_in_sand top p extra
 unfolding late late_in_sand first when
 late_in_sand_lem soil top p extra h = rw h (ends (either (absent extra) (eqb p.section 2)) (seat_short top p) (record_wrong p extra))
   where
@@ -130,6 +131,6 @@ late_in_sand_lem soil top p extra h = rw h (ends (either (absent extra) (eqb p.s
     ends false false true = refl
     ends false false false = refl
 
-pub late_in_clay_lem : (soil : Soil) (top : ℕ) (p : Pile) (extra : SandRecord) → sand soil ≡ false → late soil top p extra ≡ late_in_clay soil top p
+pub late_in_clay_lem : (soil : Soil) (top : ℕ) (p : Pile) (extra : Option SandNumbers) → sand soil ≡ false → late soil top p extra ≡ late_in_clay soil top p
 unfolding late late_in_clay first when
 late_in_clay_lem soil top p extra h = rw h

@@ -1,4 +1,6 @@
 -- Cases A to L of document 01 hold of the definitions, each with its whole reply: one table, one theorem.
+use Rattle.rules.specs.declared.SandNumbers.{SandNumbers}
+use Rattle.std.specs.Prelude.{Option, None}
 use mathlib.Core.Path.{◌≡◌, refl, sym, ◌∙◌, ap, ap₂}
 use mathlib.Core.Bool.{Bool, true}
 use mathlib.Core.List.{List, [], ◌∷◌, map, ◌++◌}
@@ -7,8 +9,6 @@ use lib.Dec.{ltb, T, ltb→lt}
 use lib.ListN.{take, replicate}
 use Rattle.rules.specs.declared.Row.{Row}
 use Rattle.rules.specs.declared.Pile.{Pile}
-use Rattle.rules.specs.declared.SandRecord.{SandRecord}
-use Rattle.rules.specs.declared.SandRecord.TheVariants.{Absent}
 use Rattle.rules.specs.declared.Slice.{Slice}
 use Rattle.rules.specs.declared.Answer.{Answer}
 use Rattle.rules.specs.Base.{pick, both, refuses, when, first, all_zero}
@@ -40,13 +40,13 @@ are_positive [] t = tt
 are_positive (r ∷ rs) t = (ltb→lt 0 r.thickness (both_left (ltb 0 r.thickness) (positive rs) t), are_positive rs (both_right (ltb 0 r.thickness) (positive rs) t))
 
 -- a calculation, its table and its sheet with the work done along the rows
-abbrev calculated_rows : List ℕ → List ℕ → SandRecord → List ℕ → Answer
+abbrev calculated_rows : List ℕ → List ℕ → Option SandNumbers → List ℕ → Answer
 calculated_rows log pile extra table = let r = lent_checks log pile table in pick (refuses r) (refused r) (answer_rows (rows_of log) (pile_of pile) extra)
 
-abbrev table_rows : List ℕ → List ℕ → SandRecord → List ℕ → List ℕ
+abbrev table_rows : List ℕ → List ℕ → Option SandNumbers → List ℕ → List ℕ
 table_rows log pile extra table = pick (refuses (lent_checks log pile table)) table (table_bytes (table_size (limit_of log)) (slices_rows (rows_of log) (pile_of pile) extra))
 
-module _ (log pile : List ℕ) (extra : SandRecord) (table : List ℕ) (w : Positive (rows_of log)) where
+module _ (log pile : List ℕ) (extra : Option SandNumbers) (table : List ℕ) (w : Positive (rows_of log)) where
   calculated_rows_lem : calculated log pile extra table ≡ calculated_rows log pile extra table
   unfolding calculated fresh_answer
   calculated_rows_lem = let r = lent_checks log pile table in ap (λ (a : Answer). pick (refuses r) (refused r) a) (sym (answer_by_rows (rows_of log) (pile_of pile) extra w))
@@ -59,17 +59,17 @@ module _ (log pile : List ℕ) (extra : SandRecord) (table : List ℕ) (w : Posi
   slices_rows_lem = sym (slices_by_rows (rows_of log) (pile_of pile) extra w)
 
 abbrev sheet_rows : List ℕ → List ℕ
-sheet_rows input = let n = input_limit input in sheet_of (calculated_rows (input_log n input) (input_pile n input) Absent (replicate (table_size n) 0)) (slices_rows (rows_of (input_log n input)) (pile_of (input_pile n input)) Absent)
+sheet_rows input = let n = input_limit input in sheet_of (calculated_rows (input_log n input) (input_pile n input) None (replicate (table_size n) 0)) (slices_rows (rows_of (input_log n input)) (pile_of (input_pile n input)) None)
 
 sheet_rows_lem : (input : List ℕ) → Positive (rows_of (input_log (input_limit input) input)) → sheet_text input ≡ sheet_rows input
 unfolding sheet_text
-sheet_rows_lem input w = let n = input_limit input in ap₂ sheet_of (calculated_rows_lem (input_log n input) (input_pile n input) Absent (replicate (table_size n) 0) w) (slices_rows_lem (input_log n input) (input_pile n input) Absent blank_table w)
+sheet_rows_lem input w = let n = input_limit input in ap₂ sheet_of (calculated_rows_lem (input_log n input) (input_pile n input) None (replicate (table_size n) 0) w) (slices_rows_lem (input_log n input) (input_pile n input) None blank_table w)
 
 -- the log of a sheet's input
 abbrev given : List Row → Pile → List ℕ
 given rs p = input_log (input_limit (log_in rs ++ pile_record p)) (log_in rs ++ pile_record p)
 
-abbrev rowed : Shown → List Row → Pile → SandRecord → List ℕ
+abbrev rowed : Shown → List Row → Pile → Option SandNumbers → List ℕ
 rowed (five l t s c u) rs p extra = reply_of (calculated_rows (log_in rs) (pile_record p) extra blank_table)
 rowed (refused_by n) rs p extra = reply_of (calculated_rows (log_in rs) (pile_record p) extra blank_table)
 rowed (kPa r) rs p extra = (calculated_rows (log_in rs) (pile_record p) extra blank_table).refusal.number ∷ resistance_in rs p extra ∷ []
@@ -80,7 +80,7 @@ rowed (pile_hex l) rs p extra = pile_record p
 rowed (first_slice l) rs p extra = take slice_size (table_rows (log_in rs) (pile_record p) extra blank_table)
 rowed (sheet l) rs p extra = sheet_rows (log_in rs ++ pile_record p)
 
-row_work_lem : (s : Shown) (rs : List Row) (p : Pile) (extra : SandRecord) → Positive (rows_of (log_in rs)) → Positive (rows_of (given rs p)) → worked s rs p extra ≡ rowed s rs p extra
+row_work_lem : (s : Shown) (rs : List Row) (p : Pile) (extra : Option SandNumbers) → Positive (rows_of (log_in rs)) → Positive (rows_of (given rs p)) → worked s rs p extra ≡ rowed s rs p extra
 row_work_lem (five l t s c u) rs p extra w v = ap reply_of (calculated_rows_lem (log_in rs) (pile_record p) extra blank_table w)
 row_work_lem (refused_by n) rs p extra w v = ap reply_of (calculated_rows_lem (log_in rs) (pile_record p) extra blank_table w)
 row_work_lem (kPa r) rs p extra w v = ap (λ (a : Answer). a.refusal.number ∷ resistance_in rs p extra ∷ []) (calculated_rows_lem (log_in rs) (pile_record p) extra blank_table w)

@@ -1,4 +1,6 @@
 -- Each check of a call refuses with its own number, in the order that documents 01 and 02 list; so a refused edit and a held refusal differ by their number.
+use Rattle.rules.specs.declared.SandNumbers.{SandNumbers}
+use Rattle.std.specs.Prelude.{Option}
 use mathlib.Core.Path.{◌≡◌, refl}
 use mathlib.Core.Bool.{Bool, true, false}
 use mathlib.Core.Logic.{◌⊎◌, inl, inr, ⊎_elim}
@@ -9,7 +11,6 @@ use Rattle.rules.specs.declared.Refusal.{Refusal}
 use Rattle.rules.specs.declared.Row.{Row}
 use Rattle.rules.specs.declared.Soil.{Soil}
 use Rattle.rules.specs.declared.Pile.{Pile}
-use Rattle.rules.specs.declared.SandRecord.{SandRecord}
 use Rattle.rules.specs.Base.{pick, both, nothing, refuses, when, first, first_of, in_order}
 use Rattle.rules.specs.Packed.{row_at, rows_of, pile_of}
 use Rattle.rules.specs.Ground.{soil_at, depth_of}
@@ -46,11 +47,11 @@ unfolding section_check
 section_own p = picked (ltb 0 (wrong_pile_field p)) 5 _ refl
 
 -- the list of a calculation, and that of an edit
-pub pile_listed : (g : ℕ → Soil) (depth : ℕ) (p : Pile) (extra : SandRecord) → Numbered (5 ∷ 6 ∷ 7 ∷ 8 ∷ 9 ∷ 10 ∷ 17 ∷ 11 ∷ 12 ∷ []) (five_on g depth p extra)
+pub pile_listed : (g : ℕ → Soil) (depth : ℕ) (p : Pile) (extra : Option SandNumbers) → Numbered (5 ∷ 6 ∷ 7 ∷ 8 ∷ 9 ∷ 10 ∷ 17 ∷ 11 ∷ 12 ∷ []) (five_on g depth p extra)
 pile_listed g depth p extra =
     (section_own p, (when_own _ 6, (when_own _ 7, (when_own _ 8, (when_own _ 9, (when_own _ 10, (when_own _ 17, (when_own _ 11, (when_own _ 12, tt)))))))))
 
-pub calculation_listed : (wrong : Bool) (log : List ℕ) (g : ℕ → Soil) (depth : ℕ) (p : Pile) (extra : SandRecord)
+pub calculation_listed : (wrong : Bool) (log : List ℕ) (g : ℕ → Soil) (depth : ℕ) (p : Pile) (extra : Option SandNumbers)
     → Numbered (1 ∷ 2 ∷ 3 ∷ 4 ∷ 5 ∷ 6 ∷ 7 ∷ 8 ∷ 9 ∷ 10 ∷ 17 ∷ 11 ∷ 12 ∷ []) (one_to_four wrong log ++ five_on g depth p extra)
 calculation_listed wrong log g depth p extra = (when_own _ 1, (when_own _ 2, (wrong_own 1 (rows_of log), (when_own _ 4, pile_listed g depth p extra))))
 
@@ -75,7 +76,7 @@ in_order_own [] (r ∷ rs) h = absurd h
 in_order_own (n ∷ ns) [] h = absurd h
 in_order_own (n ∷ ns) (r ∷ rs) h = first_own n ns r rs h
 
-pub calculation_number : (log pile : List ℕ) (extra : SandRecord) (table : List ℕ) → OneOf (1 ∷ 2 ∷ 3 ∷ 4 ∷ 5 ∷ 6 ∷ 7 ∷ 8 ∷ 9 ∷ 10 ∷ 17 ∷ 11 ∷ 12 ∷ []) (calculation_checks log pile extra table).number ⊎ (calculation_checks log pile extra table ≡ nothing)
+pub calculation_number : (log pile : List ℕ) (extra : Option SandNumbers) (table : List ℕ) → OneOf (1 ∷ 2 ∷ 3 ∷ 4 ∷ 5 ∷ 6 ∷ 7 ∷ 8 ∷ 9 ∷ 10 ∷ 17 ∷ 11 ∷ 12 ∷ []) (calculation_checks log pile extra table).number ⊎ (calculation_checks log pile extra table ≡ nothing)
 unfolding calculation_checks
 calculation_number log pile extra table =
     let g = soil_at (rows_of log) in
@@ -87,6 +88,6 @@ pub edit_number : (e : Edit) (log pile table : List ℕ) → OneOf (1 ∷ 2 ∷ 
 unfolding edit_checks
 edit_number e log pile table = let wrong = edit_lengths_wrong e log pile table in in_order_own (1 ∷ 2 ∷ 3 ∷ 4 ∷ 13 ∷ 14 ∷ 3 ∷ 4 ∷ []) (one_to_four wrong log ++ thirteen_on e log) (edit_listed wrong e log)
 
-pub ground_number : (g : ℕ → Soil) (depth : ℕ) (p : Pile) (extra : SandRecord) → OneOf (5 ∷ 6 ∷ 7 ∷ 8 ∷ 9 ∷ 10 ∷ 17 ∷ 11 ∷ 12 ∷ []) (ground_checks g depth p extra).number ⊎ (ground_checks g depth p extra ≡ nothing)
+pub ground_number : (g : ℕ → Soil) (depth : ℕ) (p : Pile) (extra : Option SandNumbers) → OneOf (5 ∷ 6 ∷ 7 ∷ 8 ∷ 9 ∷ 10 ∷ 17 ∷ 11 ∷ 12 ∷ []) (ground_checks g depth p extra).number ⊎ (ground_checks g depth p extra ≡ nothing)
 unfolding ground_checks
 ground_number g depth p extra = in_order_own (5 ∷ 6 ∷ 7 ∷ 8 ∷ 9 ∷ 10 ∷ 17 ∷ 11 ∷ 12 ∷ []) (five_on g depth p extra) (pile_listed g depth p extra)

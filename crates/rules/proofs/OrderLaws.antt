@@ -1,4 +1,6 @@
 -- The refusal of a reply is the first of its checks in order.
+use Rattle.rules.specs.declared.SandNumbers.{SandNumbers}
+use Rattle.std.specs.Prelude.{Option}
 use mathlib.Core.Path.{◌≡◌, refl, sym, ◌∙◌, ap}
 use mathlib.Core.Bool.{Bool, true, false}
 use mathlib.Core.List.{List, [], ◌∷◌, ◌++◌}
@@ -8,7 +10,6 @@ use Rattle.rules.specs.declared.Answer.{Answer}
 use Rattle.rules.specs.declared.Refusal.{Refusal}
 use Rattle.rules.specs.declared.Soil.{Soil}
 use Rattle.rules.specs.declared.Pile.{Pile}
-use Rattle.rules.specs.declared.SandRecord.{SandRecord}
 use Rattle.rules.specs.Base.{pick, nothing, refuses, first, when, first_of}
 use Rattle.rules.specs.Packed.{rows_of, pile_of}
 use Rattle.rules.specs.Ground.{soil_at, depth_of}
@@ -45,18 +46,18 @@ then_refusal r a = go (refuses r)
     go true = refl
     go false = refl
 
-ground_none : (g : ℕ → Soil) (depth : ℕ) (p : Pile) (extra : SandRecord) → refuses (ground_checks g depth p extra) ≡ false → ground_checks g depth p extra ≡ nothing
+ground_none : (g : ℕ → Soil) (depth : ℕ) (p : Pile) (extra : Option SandNumbers) → refuses (ground_checks g depth p extra) ≡ false → ground_checks g depth p extra ≡ nothing
 unfolding ground_checks
 ground_none g depth p extra h = last_off _ (_ ∷ _ ∷ _ ∷ _ ∷ _ ∷ _ ∷ _ ∷ []) (when _ 12) (λ k. when_false 12 _ (when_off 11 _ k)) h
 
-pub answer_refusal : (g : ℕ → Soil) (depth : ℕ) (p : Pile) (extra : SandRecord) → (answer g depth p extra).refusal ≡ ground_checks g depth p extra
+pub answer_refusal : (g : ℕ → Soil) (depth : ℕ) (p : Pile) (extra : Option SandNumbers) → (answer g depth p extra).refusal ≡ ground_checks g depth p extra
 unfolding answer numbers
 answer_refusal g depth p extra =
     let soil = g (below_tip p) in
     pick_refusal (ground_checks g depth p extra) (numbers soil p (resistance p extra soil) (line_of (shaft_slices g p))) refl (ground_none g depth p extra)
 
 -- of a calculation: of what is lent, then of the pile in its ground; and as one list
-module _ (log pile : List ℕ) (extra : SandRecord) (table : List ℕ) where
+module _ (log pile : List ℕ) (extra : Option SandNumbers) (table : List ℕ) where
   pub two_groups : (calculated log pile extra table).refusal ≡ first (lent_checks log pile table) (ground_checks (soil_at (rows_of log)) (depth_of (rows_of log)) (pile_of pile) extra)
   unfolding calculated fresh_answer answer_of
   two_groups = then_refusal (lent_checks log pile table) (fresh_answer log pile extra) ∙ ap (first (lent_checks log pile table)) (answer_refusal (soil_at (rows_of log)) (depth_of (rows_of log)) (pile_of pile) extra)
@@ -68,7 +69,7 @@ module _ (log pile : List ℕ) (extra : SandRecord) (table : List ℕ) where
       two_groups ∙ sym (order_append _ (drop 1 (one_to_four (lengths_wrong log pile table) log)) (section_check p) (drop 1 (five_on (soil_at (rows_of log)) (depth_of (rows_of log)) p extra)))
 
 -- of an edit: its own checks, then those of the pile in the ground that it leaves
-pub edit_refusal : (e : Edit) (log pile : List ℕ) (extra : SandRecord) (table : List ℕ)
+pub edit_refusal : (e : Edit) (log pile : List ℕ) (extra : Option SandNumbers) (table : List ℕ)
     → (edit_reply e log pile extra table).refusal ≡ first (edit_checks e log pile table) (ground_checks (soil_at (rows_of (edited_log e log))) (depth_of (rows_of (edited_log e log))) (pile_of pile) extra)
 unfolding edit_reply edit_answer fresh_answer answer_of
 edit_refusal e log pile extra table =

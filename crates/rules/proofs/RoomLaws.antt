@@ -1,4 +1,6 @@
 -- The table has places enough: in a log of at most n rows that goes down to the tip, a shaft down to at most 40,000 mm has at most n + 19 slices.
+use Rattle.rules.specs.declared.SandNumbers.{SandNumbers}
+use Rattle.std.specs.Prelude.{Option}
 use mathlib.Core.Path.{◌≡◌, refl, sym, ◌∙◌, ap}
 use mathlib.Core.Bool.{Bool, true, false, true≢false}
 use mathlib.Core.Logic.{◌⊎◌, inl, inr, ⊎_elim}
@@ -20,7 +22,6 @@ use Rattle.rules.specs.Calculation.{held_slices_of}
 use Rattle.rules.specs.declared.Soil.{Soil}
 use Rattle.rules.specs.declared.Row.{Row}
 use Rattle.rules.specs.declared.Pile.{Pile}
-use Rattle.rules.specs.declared.SandRecord.{SandRecord}
 use Rattle.rules.proofs.Basics.{split, same_eq, same_of}
 use Rattle.rules.proofs.GroundLaws.{soil_here, soil_below}
 use Rattle.rules.proofs.RefusalLaws.{first_off}
@@ -135,7 +136,7 @@ pub slices_room : (rs : List Row) (p : Pile) (n : ℕ) → length rs ≤ n → p
 slices_room rs p n k d h = rw (slices_length p (pieces (soil_at rs) p.head p.tip)) (room rs p.head p.tip n k d h)
 
 -- what is held has places: 7 and 8 see to the tip's limit and the log's depth, and where a check refuses nothing is held
-pub held_room : (rs : List Row) (p : Pile) (extra : SandRecord) (n : ℕ) → length rs ≤ n → length (held_slices_of rs p extra) ≤ places_for n
+pub held_room : (rs : List Row) (p : Pile) (extra : Option SandNumbers) (n : ℕ) → length rs ≤ n → length (held_slices_of rs p extra) ≤ places_for n
 unfolding held_slices_of held_slices checks_from
 held_room rs p extra n k =
     pick_length (refuses (ground_checks (soil_at rs) (depth_of rs) p extra)) [] (shaft_slices (soil_at rs) p) (places_for n)
@@ -145,5 +146,5 @@ held_room rs p extra n k =
     slices_room rs p n k (omega (arith, c.deep)) c.near)
 
 -- of a log past its checks, by its own form
-pub log_room : (log pile : List ℕ) (extra : SandRecord) → Passed log → length (held_slices_of (rows_of log) (pile_of pile) extra) ≤ places_for (limit_of log)
+pub log_room : (log pile : List ℕ) (extra : Option SandNumbers) → Passed log → length (held_slices_of (rows_of log) (pile_of pile) extra) ≤ places_for (limit_of log)
 log_room log pile extra h = let k = known log h in held_room (rows_of log) (pile_of pile) extra (limit_of log) (omega (arith, k.rows, k.few))

@@ -1,4 +1,6 @@
 -- What an edit leaves: an accepted one holds the answer worked out afresh, a refused one changes nothing; and logs of one ground get equal answers.
+use Rattle.rules.specs.declared.SandNumbers.{SandNumbers}
+use Rattle.std.specs.Prelude.{Option}
 use mathlib.Core.Path.{◌≡◌, refl, sym, ◌∙◌, ap₂}
 use mathlib.Core.Bool.{Bool, true, false}
 use mathlib.Core.List.{List}
@@ -10,7 +12,6 @@ use Rattle.rules.specs.declared.Slice.{Slice}
 use Rattle.rules.specs.declared.Refusal.{Refusal}
 use Rattle.rules.specs.declared.Soil.{Soil}
 use Rattle.rules.specs.declared.Pile.{Pile}
-use Rattle.rules.specs.declared.SandRecord.{SandRecord}
 use Rattle.rules.specs.Base.{pick, refuses, when}
 use Rattle.rules.specs.Limits.{table_size, limit_of}
 use Rattle.rules.specs.Packed.{rows_of, pile_of, table_bytes}
@@ -30,19 +31,19 @@ pick_kept : (t : Bool) (r : Refusal) (a : Answer) → a.kept ≡ 0 → (pick t (
 pick_kept true r a h = refl
 pick_kept false r a h = h
 
-ground_kept : (g : ℕ → Soil) (depth : ℕ) (p : Pile) (extra : SandRecord) → (answer g depth p extra).kept ≡ 0
+ground_kept : (g : ℕ → Soil) (depth : ℕ) (p : Pile) (extra : Option SandNumbers) → (answer g depth p extra).kept ≡ 0
 unfolding answer numbers
 ground_kept g depth p extra =
     let r : Refusal = ground_checks g depth p extra in
     let soil = g (below_tip p) in
     pick_kept (refuses r) r (numbers soil p (resistance p extra soil) (line_of (shaft_slices g p))) refl
 
-no_kept : (log pile : List ℕ) (extra : SandRecord) → (fresh_answer log pile extra).kept ≡ 0
+no_kept : (log pile : List ℕ) (extra : Option SandNumbers) → (fresh_answer log pile extra).kept ≡ 0
 unfolding fresh_answer answer_of
 no_kept log pile extra = ground_kept _ _ _ extra
 
 -- what is held of an accepted edit is the answer worked out afresh
-pub held_is : (log pile : List ℕ) (extra : SandRecord) (table : List ℕ) → with_kept 0 (edit_answer log pile extra table) ≡ fresh_answer log pile extra
+pub held_is : (log pile : List ℕ) (extra : Option SandNumbers) (table : List ℕ) → with_kept 0 (edit_answer log pile extra table) ≡ fresh_answer log pile extra
 unfolding edit_answer
 held_is log pile extra table = let e : (fresh_answer log pile extra).kept ≡ 0 = no_kept log pile extra in λ i. record {
   refusal = (fresh_answer log pile extra).refusal;
@@ -69,7 +70,7 @@ has_form log pile table h =
 
 -- Two logs that checks 1 to 4 let pass with the same pile record, that are equally deep and agree at every millimetre, get equal answers and
 -- equal tables, whatever the tables held.
-pub however_typed : (a b pile : List ℕ) (extra : SandRecord) (t u : List ℕ) → refuses (lent_checks a pile t) ≡ false → refuses (lent_checks b pile u) ≡ false → Agree (rows_of a) (rows_of b)
+pub however_typed : (a b pile : List ℕ) (extra : Option SandNumbers) (t u : List ℕ) → refuses (lent_checks a pile t) ≡ false → refuses (lent_checks b pile u) ≡ false → Agree (rows_of a) (rows_of b)
     → (calculated a pile extra t ≡ calculated b pile extra u) × (table_after a pile extra t ≡ table_after b pile extra u)
 unfolding calculated table_after fresh_answer fresh_table
 however_typed a b pile extra t u h k g =

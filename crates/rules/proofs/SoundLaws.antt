@@ -1,4 +1,6 @@
 -- A pile stands where no check of 5 to 12 or 17 refuses it, and only there; then the answer is its numbers.
+use Rattle.rules.specs.declared.SandNumbers.{SandNumbers}
+use Rattle.std.specs.Prelude.{Option}
 use mathlib.Core.Path.{◌≡◌}
 use mathlib.Core.Bool.{false}
 use mathlib.Core.List.{List}
@@ -8,7 +10,6 @@ use lib.Dec.{ltb, leb}
 use borrow.Author.Tests.{ltb-false, leb-false, le-ltb, lt-leb}
 use Rattle.rules.specs.declared.Soil.{Soil}
 use Rattle.rules.specs.declared.Pile.{Pile}
-use Rattle.rules.specs.declared.SandRecord.{SandRecord}
 use Rattle.rules.specs.Base.{nothing, refuses, when, first}
 use Rattle.rules.specs.Limits.{tip_limit, table_size, limit_of}
 use Rattle.rules.specs.Grades.{cut_depth}
@@ -24,7 +25,7 @@ use Rattle.rules.proofs.InRangeLaws.{pile_right, pile_in_range}
 use Rattle.rules.proofs.TipLaws.{tip_passes, tip_sound}
 use Rattle.rules.proofs.RefusalLaws.{first_off, when_off, either_left, either_right}
 
-module _ (g : ℕ → Soil) (depth : ℕ) (p : Pile) (extra : SandRecord) where
+module _ (g : ℕ → Soil) (depth : ℕ) (p : Pile) (extra : Option SandNumbers) where
   abbrev soil : Soil
   soil = g (below_tip p)
 
@@ -91,7 +92,7 @@ module _ (g : ℕ → Soil) (depth : ℕ) (p : Pile) (extra : SandRecord) where
       }
 
 -- of lent bytes
-module _ (log pile : List ℕ) (extra : SandRecord) (table : List ℕ) where
+module _ (log pile : List ℕ) (extra : Option SandNumbers) (table : List ℕ) where
   abbrev ground : ℕ → Soil
   ground = soil_at (rows_of log)
 

@@ -1,4 +1,5 @@
 -- What 9, 17, 11 and 12 ask of the soil below the tip, as tests and as facts: a clay tip is asked 11 and 12, a sand tip 9 and 17.
+use Rattle.std.specs.Prelude.{Option, None, Some}
 use mathlib.Core.Path.{◌≡◌, refl}
 use mathlib.Core.Bool.{Bool, true, false, true≢false}
 use mathlib.Core.Logic.{◌⊎◌, inl, inr}
@@ -9,8 +10,6 @@ use borrow.Author.Tests.{ltb-false, leb-false, leb-true, eqb-false, le-ltb, lt-l
 use Rattle.rules.specs.declared.Soil.{Soil}
 use Rattle.rules.specs.declared.Pile.{Pile}
 use Rattle.rules.specs.declared.SandNumbers.{SandNumbers}
-use Rattle.rules.specs.declared.SandRecord.{SandRecord}
-use Rattle.rules.specs.declared.SandRecord.TheVariants.{Absent, Given}
 use Rattle.rules.specs.Base.{both, either, neg, within}
 use Rattle.rules.specs.SandTips.{reduced}
 use Rattle.rules.specs.Numbers.{sand, tip_of, tip_from_cut, tip_read, is_dash}
@@ -19,13 +18,13 @@ use Rattle.rules.specs.Ranges.{Between, SoundClay, SoundSand}
 use Rattle.rules.proofs.RefusalLaws.{either_left, either_right, neg_false, within_low, within_high, within_true}
 
 -- none of the four refuses
-pub record TipPasses (s : Soil) (p : Pile) (extra : SandRecord) : Type 0 where
+pub record TipPasses (s : Soil) (p : Pile) (extra : Option SandNumbers) : Type 0 where
   pub nine : sand_unread s p extra ≡ false
   pub seventeen : sand_wrong s p extra ≡ false
   pub eleven : too_soft s ≡ false
   pub twelve : dashed s p ≡ false
 
-module _ (s : Soil) (p : Pile) (extra : SandRecord) where
+module _ (s : Soil) (p : Pile) (extra : Option SandNumbers) where
   record_right : SoundSand s p extra → record_wrong p extra ≡ false
   record_right t =
       rw (
@@ -48,7 +47,7 @@ module _ (s : Soil) (p : Pile) (extra : SandRecord) where
   in_range low high n h = let k = neg_false (within low high n) h in (within_low low high n k, within_high low high n k)
 
   -- a record with nothing wrong
-  pub ranges : (b : SandNumbers) → record_wrong p (Given b) ≡ false
+  pub ranges : (b : SandNumbers) → record_wrong p (Some b) ≡ false
       → Between 23000 39000 (reduced b.angle) × Between 1 30000 b.below × Between 1 30000 b.above × (4 * p.a ≤ tip_from_cut p)
   ranges b h =
       let angle = neg (within 23000 39000 (reduced b.angle)) in
@@ -62,9 +61,9 @@ module _ (s : Soil) (p : Pile) (extra : SandRecord) where
         ltb-false (tip_from_cut p) (4 * p.a) (either_right above _ last),
       )
 
-  given_right : (x : SandRecord) → s.kind ≤ 3 → p.section ≡ 1 → absent x ≡ false → record_wrong p x ≡ false → SoundSand s p x
-  given_right Absent k c a h = absurd (true≢false a)
-  given_right (Given b) k c a h =
+  given_right : (x : Option SandNumbers) → s.kind ≤ 3 → p.section ≡ 1 → absent x ≡ false → record_wrong p x ≡ false → SoundSand s p x
+  given_right None k c a h = absurd (true≢false a)
+  given_right (Some b) k c a h =
       let r = ranges b h in
       record { soil = k; base = b; given = refl; circle = c; angle = r.0; below = r.1; above = r.2; ratio = r.3 }
 

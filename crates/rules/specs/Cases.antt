@@ -1,13 +1,12 @@
 -- Cases A to L of document 01, "The sheet program and known numbers", two that its traps ask for, a deep pile, and cases of requests of 02:
 -- what is right, and what the definitions give. Each case has its whole reply: number, row, field, kept and all five numbers. Five numbers that
 -- the papers do not print are from the second program (second/), which works in exact fractions.
-use Rattle.std.specs.Prelude.{List, [], ◌∷◌, ◌++◌, map, ℕ, ◌*◌, ◌-◌, ◌^◌, eqb, take, replicate}
+use Rattle.rules.specs.declared.SandNumbers.{SandNumbers}
+use Rattle.std.specs.Prelude.{List, [], ◌∷◌, ◌++◌, map, ℕ, ◌*◌, ◌-◌, ◌^◌, eqb, take, replicate, Option, None, Some}
 use Rattle.rules.specs.declared.Row.{Row}
 use Rattle.rules.specs.declared.Pile.{Pile}
 use Rattle.rules.specs.declared.Slice.{Slice}
 use Rattle.rules.specs.declared.Answer.{Answer}
-use Rattle.rules.specs.declared.SandRecord.{SandRecord}
-use Rattle.rules.specs.declared.SandRecord.TheVariants.{Absent, Given}
 use Rattle.rules.specs.Base.{pick}
 use Rattle.rules.specs.Grades.{with_grade}
 use Rattle.rules.specs.Records.{plain_size, graded_size, slice_size, slice_fields}
@@ -39,7 +38,7 @@ pub data Shown : Type 0 where
 pub record Case : Type 0 where
   pub rows : List Row
   pub pile : Pile
-  pub extra : SandRecord
+  pub extra : Option SandNumbers
   pub shown : Shown
 
 abbrev pub joined : List (List ℕ) → List ℕ
@@ -69,20 +68,20 @@ pile_record p = pile_bytes (pick (eqb p.grade 0) plain_size graded_size) p
 abbrev pub blank_table : List ℕ
 blank_table = replicate (table_size row_limit) 0
 
-abbrev pub answer_in : List Row → Pile → SandRecord → Answer
+abbrev pub answer_in : List Row → Pile → Option SandNumbers → Answer
 answer_in rs p extra = calculated (log_in rs) (pile_record p) extra blank_table
 
-abbrev pub slices_in : List Row → Pile → SandRecord → List Slice
+abbrev pub slices_in : List Row → Pile → Option SandNumbers → List Slice
 slices_in rs p extra = held_slices_of (rows_of (log_in rs)) (pile_of (pile_record p)) extra
 
-abbrev pub resistance_in : List Row → Pile → SandRecord → ℕ
+abbrev pub resistance_in : List Row → Pile → Option SandNumbers → ℕ
 resistance_in rs p extra = resistance (pile_of (pile_record p)) extra (soil_at (rows_of (log_in rs)) (below_tip p))
 
 abbrev pub reply_of : Answer → List ℕ
 reply_of a = a.refusal.number ∷ a.refusal.row ∷ a.refusal.field ∷ a.kept ∷ a.line ∷ a.tip ∷ a.shaft ∷ a.capacity ∷ a.uplift ∷ []
 
 -- the same, worked out by the definitions, from the packed bytes
-abbrev pub worked : Shown → List Row → Pile → SandRecord → List ℕ
+abbrev pub worked : Shown → List Row → Pile → Option SandNumbers → List ℕ
 worked (five l t s c u) rs p extra = reply_of (answer_in rs p extra)
 worked (refused_by n) rs p extra = reply_of (answer_in rs p extra)
 worked (kPa r) rs p extra = (answer_in rs p extra).refusal.number ∷ resistance_in rs p extra ∷ []
@@ -105,9 +104,9 @@ row t k i w = record { thickness = t; kind = k; index = i; saturation = w; zero 
 
 -- with no extra record, and with one
 abbrev pub case : List Row → Pile → Shown → Case
-case r p s = record { rows = r; pile = p; extra = Absent; shown = s }
+case r p s = record { rows = r; pile = p; extra = None; shown = s }
 
-abbrev pub case_with : SandRecord → List Row → Pile → Shown → Case
+abbrev pub case_with : Option SandNumbers → List Row → Pile → Shown → Case
 case_with extra r p s = record { rows = r; pile = p; extra = extra; shown = s }
 
 -- clay of saturation 95 and this index, in hundredths plus 100
@@ -141,8 +140,8 @@ abbrev pub circle_of : ℕ → ℕ → Pile
 circle_of d t = record { section = 1; a = d; b = 0; method = 1; head = 1000; tip = t; zero = 0; grade = 0 }
 
 -- the extra record: angle, unit weight below and above
-abbrev pub sand_record : ℕ → ℕ → ℕ → SandRecord
-sand_record angle below above = Given (record { angle = angle; below = below; above = above })
+abbrev pub sand_record : ℕ → ℕ → ℕ → Option SandNumbers
+sand_record angle below above = Some (record { angle = angle; below = below; above = above })
 
 -- sand of this kind, its saturation that of the clay
 abbrev pub sand_of : ℕ → ℕ → List Row

@@ -1,11 +1,10 @@
 -- Checks 1 to 14 and 17 of documents 01 and 02, by their numbers, each with its sentence; then which of them a call makes, in order.
-use Rattle.std.specs.Prelude.{◌≡◌, Bool, true, false, ◌⊎◌, List, [], ◌∷◌, ◌++◌, ℕ, ◌+◌, ◌*◌, ◌-◌, max, ltb, leb, eqb, length, drop}
+use Rattle.rules.specs.declared.SandNumbers.{SandNumbers}
+use Rattle.std.specs.Prelude.{◌≡◌, Bool, true, false, ◌⊎◌, List, [], ◌∷◌, ◌++◌, ℕ, ◌+◌, ◌*◌, ◌-◌, max, ltb, leb, eqb, length, drop, Option, None, Some}
 use Rattle.rules.specs.declared.Refusal.{Refusal}
 use Rattle.rules.specs.declared.Row.{Row}
 use Rattle.rules.specs.declared.Soil.{Soil}
 use Rattle.rules.specs.declared.Pile.{Pile}
-use Rattle.rules.specs.declared.SandRecord.{SandRecord}
-use Rattle.rules.specs.declared.SandRecord.TheVariants.{Absent, Given}
 use Rattle.rules.specs.Base.{pick, both, either, neg, within, nothing, refuses, when, in_order, all_zero}
 use Rattle.rules.specs.Records.{row_size, plain_size, graded_size}
 use Rattle.rules.specs.Limits.{limit_of, table_size, thickness_limit, depth_limit, tip_limit}
@@ -114,11 +113,11 @@ abbrev pub log_short : ℕ → Pile → Bool
 log_short depth p = ltb depth (p.tip + 5000)
 
 -- 9: 02 (iv): "now means a sand tip without the record or in a rectangle"
-abbrev pub absent : SandRecord → Bool
-absent Absent = true
-absent (Given b) = false
+abbrev pub absent : Option SandNumbers → Bool
+absent None = true
+absent (Some b) = false
 
-abbrev pub sand_unread : Soil → Pile → SandRecord → Bool
+abbrev pub sand_unread : Soil → Pile → Option SandNumbers → Bool
 sand_unread s p extra = both (sand s) (either (absent extra) (eqb p.section 2))
 
 -- 10: "seat too short: tip less the deeper of head and tip-stratum top is under 2,000, or under the diameter or longer side"
@@ -130,15 +129,15 @@ seat_short top p = either (ltb (seat_of top p) 2000) (ltb (seat_of top p) (max p
 
 -- 17: 02 (iv): "after 10 and with the effect of 10, an angle under 23 or over 39 degrees after the 0.9, a unit weight of 0 or over 30,000, or
 -- h/d under 4": of a record that is given, for a circle of diameter a
-abbrev pub record_wrong : Pile → SandRecord → Bool
-record_wrong p Absent = false
-record_wrong p (Given b) =
+abbrev pub record_wrong : Pile → Option SandNumbers → Bool
+record_wrong p None = false
+record_wrong p (Some b) =
     either (neg (within 23000 39000 (reduced b.angle)))
     (either (neg (within 1 30000 b.below))
     (either (neg (within 1 30000 b.above))
     (ltb (tip_from_cut p) (4 * p.a))))
 
-abbrev pub sand_wrong : Soil → Pile → SandRecord → Bool
+abbrev pub sand_wrong : Soil → Pile → Option SandNumbers → Bool
 sand_wrong s p extra = both (sand s) (record_wrong p extra)
 
 -- 11: "tip liquidity index over 0.60", stored "in hundredths plus 100"; 02 (iv), of a sand tip: "11 and 12 don't apply to it"
@@ -164,7 +163,7 @@ abbrev pub one_to_four : Bool → List ℕ → List Refusal
 one_to_four wrong log = when wrong 1 ∷ when (unused_wrong log) 2 ∷ first_wrong 1 (rows_of log) ∷ when (too_deep (rows_of log)) 4 ∷ []
 
 -- of a pile in a ground g that is `depth` deep, with the extra record that comes with it
-abbrev pub five_on : (ℕ → Soil) → ℕ → Pile → SandRecord → List Refusal
+abbrev pub five_on : (ℕ → Soil) → ℕ → Pile → Option SandNumbers → List Refusal
 five_on g depth p extra =
     let soil = g (below_tip p) in
     section_check p ∷
@@ -192,11 +191,11 @@ unfoldable pub lent_checks : List ℕ → List ℕ → List ℕ → Refusal
 lent_checks log pile table = in_order (one_to_four (lengths_wrong log pile table) log)
 
 -- 5 to 12, with 17 after 10
-unfoldable pub ground_checks : (ℕ → Soil) → ℕ → Pile → SandRecord → Refusal
+unfoldable pub ground_checks : (ℕ → Soil) → ℕ → Pile → Option SandNumbers → Refusal
 ground_checks g depth p extra = in_order (five_on g depth p extra)
 
 -- "A calculation checks 1 to 12 .. in order.", 17 "after 10"
-unfoldable pub calculation_checks : List ℕ → List ℕ → SandRecord → List ℕ → Refusal
+unfoldable pub calculation_checks : List ℕ → List ℕ → Option SandNumbers → List ℕ → Refusal
 calculation_checks log pile extra table =
     in_order (one_to_four (lengths_wrong log pile table) log ++ five_on (soil_at (rows_of log)) (depth_of (rows_of log)) (pile_of pile) extra)
 

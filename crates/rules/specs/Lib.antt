@@ -1,5 +1,6 @@
 -- Documents 01 and 02 as definitions; README.md has the map.
 pub mod Base
+pub mod Faults
 pub mod Widths
 pub mod Records
 pub mod Limits

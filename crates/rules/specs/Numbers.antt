@@ -1,13 +1,10 @@
 -- The slices of a shaft with their friction and factor, R under the tip, and the six roundings.
-use Rattle.std.specs.Prelude.{Bool, true, false, List, [], ◌∷◌, ℕ, ◌+◌, ◌*◌, ◌-◌, ◌/◌, max, ltb, leb, eqb}
+use Rattle.rules.specs.declared.SandNumbers.{SandNumbers}
+use Rattle.std.specs.Prelude.{Bool, true, false, List, [], ◌∷◌, ℕ, ◌+◌, ◌*◌, ◌-◌, ◌/◌, max, ltb, leb, eqb, Option, None, Some}
 use Rattle.rules.specs.declared.Soil.{Soil}
 use Rattle.rules.specs.declared.Pile.{Pile}
 use Rattle.rules.specs.declared.Slice.{Slice}
-use Rattle.rules.specs.declared.SandRecord.{SandRecord}
-use Rattle.rules.specs.declared.SandRecord.TheVariants.{Absent, Given}
 use Rattle.rules.specs.declared.Spot.{Spot}
-use Rattle.rules.specs.declared.TipRead.{TipRead}
-use Rattle.rules.specs.declared.TipRead.TheVariants.{Dashed, Pascals}
 use Rattle.rules.specs.Base.{pick, both, neg}
 use Rattle.rules.specs.Grades.{cut_depth, as_read}
 use Rattle.rules.specs.Pieces.{Piece, pieces}
@@ -91,24 +88,24 @@ abbrev pub tip_spot : ℕ → ℕ → Spot
 tip_spot depth index = spot_in tip_depths tip_rows 1000 depth (max 100 index - 100)
 
 -- "1. R to whole Pa.", or the dash where one would be read with a weight above zero
-unfoldable pub tip_read : ℕ → ℕ → TipRead
-tip_read depth index = pick (dash_at (tip_spot depth index)) Dashed (Pascals (tip_at (tip_spot depth index)))
+unfoldable pub tip_read : ℕ → ℕ → Option ℕ
+tip_read depth index = pick (dash_at (tip_spot depth index)) None (Some (tip_at (tip_spot depth index)))
 
-abbrev pub is_dash : TipRead → Bool
-is_dash Dashed = true
-is_dash (Pascals r) = false
+abbrev pub is_dash : Option ℕ → Bool
+is_dash None = true
+is_dash (Some r) = false
 
-abbrev pub pascals : TipRead → ℕ
-pascals Dashed = 0
-pascals (Pascals r) = r
+abbrev pub pascals : Option ℕ → ℕ
+pascals None = 0
+pascals (Some r) = r
 
 -- 02 (iv): "A sand tip brings an extra record of three whole numbers": R by formula (7.12), capped by table 7.2; 0 without the record
-abbrev pub sand_pascals : Pile → SandRecord → Soil → ℕ
-sand_pascals p Absent s = 0
-sand_pascals p (Given b) s = sand_resistance b (tip_from_cut p) p.a s.kind (tip_of p)
+abbrev pub sand_pascals : Pile → Option SandNumbers → Soil → ℕ
+sand_pascals p None s = 0
+sand_pascals p (Some b) s = sand_resistance b (tip_from_cut p) p.a s.kind (tip_of p)
 
 -- R; the extra record is "ignored over clay"
-unfoldable pub resistance : Pile → SandRecord → Soil → ℕ
+unfoldable pub resistance : Pile → Option SandNumbers → Soil → ℕ
 resistance p extra s = pick (sand s) (sand_pascals p extra s) (pascals (tip_read (tip_of p) s.index))
 
 -- "2. Line: the sum of friction × thickness × factor, to whole N per metre of perimeter."

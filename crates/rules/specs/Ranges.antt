@@ -1,14 +1,12 @@
 -- The ranges of fields as documents 01 and 02 give them, of a row, a log, a pile record and slices, and a pile that stands: facts on numbers,
 -- where Checks has the tests.
-use Rattle.std.specs.Prelude.{◌≡◌, false, ◌⊎◌, List, [], ◌∷◌, ℕ, ◌+◌, ◌*◌, ◌^◌, ◌<◌, ◌≤◌, max, length, get_or}
+use Rattle.std.specs.Prelude.{◌≡◌, false, ◌⊎◌, List, [], ◌∷◌, ℕ, ◌+◌, ◌*◌, ◌^◌, ◌<◌, ◌≤◌, max, length, get_or, Option, Some}
 use Rattle.rules.specs.declared.Row.{Row}
 use Rattle.rules.specs.declared.Log.{Log}
 use Rattle.rules.specs.declared.Soil.{Soil}
 use Rattle.rules.specs.declared.Pile.{Pile}
 use Rattle.rules.specs.declared.Slice.{Slice}
 use Rattle.rules.specs.declared.SandNumbers.{SandNumbers}
-use Rattle.rules.specs.declared.SandRecord.{SandRecord}
-use Rattle.rules.specs.declared.SandRecord.TheVariants.{Given}
 use Rattle.rules.specs.Widths.{Fits}
 use Rattle.rules.specs.Records.{plain_size, graded_size, slice_widths, slice_fields}
 use Rattle.rules.specs.Limits.{row_limit, thickness_limit, tip_limit}
@@ -84,11 +82,11 @@ pub record SoundClay (s : Soil) (p : Pile) : Type 0 where
   pub read : is_dash (tip_read (tip_of p) s.index) ≡ false
 
 -- a tip in sand, 02 (iv): what 9 and 17 ask of kinds 1 to 3
-pub record SoundSand (s : Soil) (p : Pile) (extra : SandRecord) : Type 0 where
+pub record SoundSand (s : Soil) (p : Pile) (extra : Option SandNumbers) : Type 0 where
   pub soil : s.kind ≤ 3
   -- 9: "a sand tip without the record or in a rectangle"
   pub base : SandNumbers
-  pub given : extra ≡ Given base
+  pub given : extra ≡ Some base
   pub circle : p.section ≡ 1
   -- 17: "an angle under 23 or over 39 degrees after the 0.9"
   pub angle : Between 23000 39000 (reduced base.angle)
@@ -99,7 +97,7 @@ pub record SoundSand (s : Soil) (p : Pile) (extra : SandRecord) : Type 0 where
   pub ratio : 4 * p.a ≤ tip_from_cut p
 
 -- a pile that stands in a ground g which is `depth` deep, with its extra record: what 5 to 12 and 17 ask, as facts
-pub record Sound (g : ℕ → Soil) (depth : ℕ) (p : Pile) (extra : SandRecord) : Type 0 where
+pub record Sound (g : ℕ → Soil) (depth : ℕ) (p : Pile) (extra : Option SandNumbers) : Type 0 where
   pub fields : PileInRange p
   -- 7: "head not above tip, or tip under 3,000 or over 40,000"
   pub order : p.head < p.tip

@@ -1,7 +1,7 @@
 -- A run of edits: the log, the table and the held answer that it leaves.
-use Rattle.std.specs.Prelude.{◌≡◌, Bool, false, List, [], ◌∷◌, ◌++◌, ℕ}
+use Rattle.rules.specs.declared.SandNumbers.{SandNumbers}
+use Rattle.std.specs.Prelude.{◌≡◌, Bool, false, List, [], ◌∷◌, ◌++◌, ℕ, Option}
 use Rattle.rules.specs.declared.Answer.{Answer}
-use Rattle.rules.specs.declared.SandRecord.{SandRecord}
 use Rattle.rules.specs.Base.{pick, either, neg, refuses}
 use Rattle.rules.specs.Edits.{Edit}
 use Rattle.rules.specs.Checks.{edit_checks, Passed, LentPassed, Accepted}
@@ -12,13 +12,13 @@ use Rattle.rules.specs.EditReplies.{edit_reply, edit_log, edit_table, with_kept}
 pub record Call : Type 0 where
   pub edit : Edit
   pub pile : List ℕ
-  pub extra : SandRecord
+  pub extra : Option SandNumbers
 
 -- "The held answer is the last accepted edit's refusal number, row, field and five numbers; kept is not part of it";
 -- with the pile record and the extra record it was worked out for
 pub data Held : Type 0 where
   never : Held
-  by : List ℕ → SandRecord → Answer → Held
+  by : List ℕ → Option SandNumbers → Answer → Held
 
 pub record Desk : Type 0 where
   pub log : List ℕ

@@ -1,11 +1,9 @@
 -- Tips in sand, 02 (iv): tables 7.7 and 7.2 as source document 001 prints them, how they are read, R, and the extra record as it is given.
-use Rattle.std.specs.Prelude.{List, [], ◌∷◌, eqb, ℕ, ◌+◌, ◌*◌, ◌-◌, ◌/◌, min, length}
+use Rattle.std.specs.Prelude.{List, [], ◌∷◌, eqb, ℕ, ◌+◌, ◌*◌, ◌-◌, ◌/◌, min, length, Option, None, Some}
 use Rattle.rules.specs.declared.Spot.{Spot}
 use Rattle.rules.specs.declared.OnScale.{OnScale}
 use Rattle.rules.specs.declared.SandNumbers.{SandNumbers}
 use Rattle.rules.specs.declared.SandFields.{SandFields}
-use Rattle.rules.specs.declared.SandRecord.{SandRecord}
-use Rattle.rules.specs.declared.SandRecord.TheVariants.{Absent, Given}
 use Rattle.rules.specs.Base.{pick}
 use Rattle.rules.specs.Tables.{spot_of, cell}
 
@@ -142,5 +140,5 @@ unfoldable pub sand_resistance : SandNumbers → ℕ → ℕ → ℕ → ℕ →
 sand_resistance b h d kind depth = min (sand_formula b h d) (sand_cap kind depth)
 
 -- the extra record, as hosts give it: absent where given is 0; any other: the three numbers
-unfoldable pub sand_from : SandFields → SandRecord
-sand_from f = pick (eqb f.given 0) Absent (Given (record { angle = f.angle; below = f.below; above = f.above }))
+unfoldable pub sand_from : SandFields → Option SandNumbers
+sand_from f = pick (eqb f.given 0) None (Some (record { angle = f.angle; below = f.below; above = f.above }))

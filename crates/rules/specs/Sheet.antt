@@ -1,8 +1,7 @@
 -- The sheet: the text that the sheet program prints for the bytes it reads.
-use Rattle.std.specs.Prelude.{List, [], ◌∷◌, ◌++◌, ℕ, zero, suc, ◌+◌, ◌/◌, ◌%◌, ltb, eqb, length, take, drop, replicate}
+use Rattle.std.specs.Prelude.{List, [], ◌∷◌, ◌++◌, ℕ, zero, suc, ◌+◌, ◌/◌, ◌%◌, ltb, eqb, length, take, drop, replicate, None}
 use Rattle.rules.specs.declared.Answer.{Answer}
 use Rattle.rules.specs.declared.Slice.{Slice}
-use Rattle.rules.specs.declared.SandRecord.TheVariants.{Absent}
 use Rattle.rules.specs.Base.{pick, refuses}
 use Rattle.rules.specs.Records.{plain_size, graded_size, slice_fields}
 use Rattle.rules.specs.Limits.{forms, form_by, log_size, table_size}
@@ -75,4 +74,4 @@ input_pile n input = drop (log_size n) input
 unfoldable pub sheet_text : List ℕ → List ℕ
 sheet_text input =
     let n = input_limit input in
-    sheet_of (calculated (input_log n input) (input_pile n input) Absent (replicate (table_size n) 0)) (held_slices_of (rows_of (input_log n input)) (pile_of (input_pile n input)) Absent)
+    sheet_of (calculated (input_log n input) (input_pile n input) None (replicate (table_size n) 0)) (held_slices_of (rows_of (input_log n input)) (pile_of (input_pile n input)) None)

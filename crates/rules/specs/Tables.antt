@@ -1,8 +1,6 @@
 -- Tables 7.3 and 7.8 as document 01 prints them, and the rule by which tables are read.
-use Rattle.std.specs.Prelude.{Bool, false, List, [], ◌∷◌, ℕ, zero, suc, ◌+◌, ◌*◌, ◌-◌, ◌/◌, min, max, length, get_or, ltb}
+use Rattle.std.specs.Prelude.{Bool, false, List, [], ◌∷◌, ℕ, zero, suc, ◌+◌, ◌*◌, ◌-◌, ◌/◌, min, max, length, get_or, ltb, Option, None, Some}
 use Rattle.rules.specs.declared.Spot.{Spot}
-use Rattle.rules.specs.declared.Cell.{Cell}
-use Rattle.rules.specs.declared.Cell.TheVariants.{Dash, Kpa}
 use Rattle.rules.specs.Base.{pick, both, either}
 
 -- "SNiP table 2 (table 7.3 of source document 001), kPa": depths in metres; columns 0.2 to 1.0
@@ -30,18 +28,18 @@ friction_rows =
 abbrev pub tip_depths : List ℕ
 tip_depths = 3 ∷ 5 ∷ 7 ∷ 10 ∷ 12 ∷ 15 ∷ 18 ∷ 20 ∷ 30 ∷ 40 ∷ []
 
-abbrev pub tip_rows : List (List Cell)
+abbrev pub tip_rows : List (List (Option ℕ))
 tip_rows =
-    (Kpa 850 ∷ Kpa 750 ∷ Kpa 650 ∷ Kpa 500 ∷ Kpa 400 ∷ Kpa 300 ∷ Kpa 250 ∷ []) ∷
-    (Kpa 1000 ∷ Kpa 850 ∷ Kpa 750 ∷ Kpa 650 ∷ Kpa 500 ∷ Kpa 400 ∷ Kpa 350 ∷ []) ∷
-    (Kpa 1150 ∷ Kpa 1000 ∷ Kpa 850 ∷ Kpa 750 ∷ Kpa 600 ∷ Kpa 500 ∷ Kpa 450 ∷ []) ∷
-    (Kpa 1350 ∷ Kpa 1200 ∷ Kpa 1050 ∷ Kpa 950 ∷ Kpa 800 ∷ Kpa 700 ∷ Kpa 600 ∷ []) ∷
-    (Kpa 1550 ∷ Kpa 1400 ∷ Kpa 1250 ∷ Kpa 1100 ∷ Kpa 950 ∷ Kpa 800 ∷ Kpa 700 ∷ []) ∷
-    (Kpa 1800 ∷ Kpa 1650 ∷ Kpa 1500 ∷ Kpa 1300 ∷ Kpa 1100 ∷ Kpa 1000 ∷ Kpa 800 ∷ []) ∷
-    (Kpa 2100 ∷ Kpa 1900 ∷ Kpa 1700 ∷ Kpa 1500 ∷ Kpa 1300 ∷ Kpa 1150 ∷ Kpa 950 ∷ []) ∷
-    (Kpa 2300 ∷ Kpa 2100 ∷ Kpa 1900 ∷ Kpa 1650 ∷ Kpa 1450 ∷ Kpa 1250 ∷ Kpa 1050 ∷ []) ∷
-    (Kpa 3300 ∷ Kpa 3000 ∷ Kpa 2600 ∷ Kpa 2300 ∷ Kpa 2000 ∷ Dash ∷ Dash ∷ []) ∷
-    (Kpa 4500 ∷ Kpa 4000 ∷ Kpa 3500 ∷ Kpa 3000 ∷ Kpa 2500 ∷ Dash ∷ Dash ∷ []) ∷
+    (Some 850 ∷ Some 750 ∷ Some 650 ∷ Some 500 ∷ Some 400 ∷ Some 300 ∷ Some 250 ∷ []) ∷
+    (Some 1000 ∷ Some 850 ∷ Some 750 ∷ Some 650 ∷ Some 500 ∷ Some 400 ∷ Some 350 ∷ []) ∷
+    (Some 1150 ∷ Some 1000 ∷ Some 850 ∷ Some 750 ∷ Some 600 ∷ Some 500 ∷ Some 450 ∷ []) ∷
+    (Some 1350 ∷ Some 1200 ∷ Some 1050 ∷ Some 950 ∷ Some 800 ∷ Some 700 ∷ Some 600 ∷ []) ∷
+    (Some 1550 ∷ Some 1400 ∷ Some 1250 ∷ Some 1100 ∷ Some 950 ∷ Some 800 ∷ Some 700 ∷ []) ∷
+    (Some 1800 ∷ Some 1650 ∷ Some 1500 ∷ Some 1300 ∷ Some 1100 ∷ Some 1000 ∷ Some 800 ∷ []) ∷
+    (Some 2100 ∷ Some 1900 ∷ Some 1700 ∷ Some 1500 ∷ Some 1300 ∷ Some 1150 ∷ Some 950 ∷ []) ∷
+    (Some 2300 ∷ Some 2100 ∷ Some 1900 ∷ Some 1650 ∷ Some 1450 ∷ Some 1250 ∷ Some 1050 ∷ []) ∷
+    (Some 3300 ∷ Some 3000 ∷ Some 2600 ∷ Some 2300 ∷ Some 2000 ∷ None ∷ None ∷ []) ∷
+    (Some 4500 ∷ Some 4000 ∷ Some 3500 ∷ Some 3000 ∷ Some 2500 ∷ None ∷ None ∷ []) ∷
     []
 
 -- the last of the rows i to i + n whose depth, times unit, is at most d; i where there is none
@@ -81,8 +79,8 @@ cell z t i j = get_or (get_or t i []) j z
 abbrev pub friction_cell : ℕ → ℕ → ℕ
 friction_cell i j = cell 0 friction_rows i j
 
-abbrev pub tip_cell : ℕ → ℕ → Cell
-tip_cell i j = cell Dash tip_rows i j
+abbrev pub tip_cell : ℕ → ℕ → Option ℕ
+tip_cell i j = cell None tip_rows i j
 
 abbrev pub friction_weighed : Spot → ℕ
 friction_weighed p =
@@ -103,14 +101,14 @@ metre = 2000
 abbrev pub with_first_metre : (ℕ → ℕ) → ℕ → ℕ
 with_first_metre reading mid = pick (ltb mid metre) (reading metre * mid / metre) (reading mid)
 
-abbrev pub kpa_of : Cell → ℕ
-kpa_of Dash = 0
-kpa_of (Kpa n) = n
+abbrev pub kpa_of : Option ℕ → ℕ
+kpa_of None = 0
+kpa_of (Some n) = n
 
 -- "a dash in table 7.8 would be read with a weight above zero": the weight of its row, and that of its column
-abbrev pub gap : ℕ → ℕ → Cell → Bool
-gap u v Dash = both (ltb 0 u) (ltb 0 v)
-gap u v (Kpa n) = false
+abbrev pub gap : ℕ → ℕ → Option ℕ → Bool
+gap u v None = both (ltb 0 u) (ltb 0 v)
+gap u v (Some n) = false
 
 unfoldable pub dash_at : Spot → Bool
 dash_at p =

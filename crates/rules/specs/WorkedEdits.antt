@@ -1,11 +1,10 @@
 -- Worked edits: each of the four kinds accepted, one on a graded site, refusals 13, 14, 3 and 4 once each, and accepted edits that hold a
 -- refusal of the pile, and one that brings the record of a sand tip. Every reply, log and table is from the second program (second/).
-use Rattle.std.specs.Prelude.{List, [], ◌∷◌, map, ℕ, replicate}
+use Rattle.rules.specs.declared.SandNumbers.{SandNumbers}
+use Rattle.std.specs.Prelude.{List, [], ◌∷◌, map, ℕ, replicate, Option, None}
 use Rattle.rules.specs.declared.Row.{Row}
 use Rattle.rules.specs.declared.Pile.{Pile}
 use Rattle.rules.specs.declared.Slice.{Slice}
-use Rattle.rules.specs.declared.SandRecord.{SandRecord}
-use Rattle.rules.specs.declared.SandRecord.TheVariants.{Absent}
 use Rattle.rules.specs.Records.{slice_from}
 use Rattle.rules.specs.Grades.{with_grade}
 use Rattle.rules.specs.Limits.{row_limit, table_size}
@@ -19,7 +18,7 @@ pub record WorkedEdit : Type 0 where
   -- what is lent: the log's rows, the pile and its extra record, the table's slices
   pub rows : List Row
   pub pile : Pile
-  pub extra : SandRecord
+  pub extra : Option SandNumbers
   pub lent : List Slice
   -- refusal number, row, field; kept; line, tip, shaft, capacity, uplift
   pub reply : List ℕ
@@ -65,12 +64,12 @@ abbrev pub slices_g : List Slice
 slices_g = slice 1000 2000 6000000 7 ∷ slice 3000 1000 7300000 7 ∷ slice 4000 2000 8000000 6 ∷ slice 6000 2000 8600000 6 ∷ slice 8000 2000 9000000 6 ∷ []
 
 -- an edit of these rows for a pile with this extra record, G's slices lent; its reply, and the log and the table it leaves
-abbrev pub worked_with : SandRecord → Pile → Edit → List Row → List ℕ → List Row → List Slice → WorkedEdit
+abbrev pub worked_with : Option SandNumbers → Pile → Edit → List Row → List ℕ → List Row → List Slice → WorkedEdit
 worked_with extra p e rs reply now cs = record { edit = e; rows = rs; pile = p; extra = extra; lent = slices_g; reply = reply; rows_after = now; slices_after = cs }
 
 -- without one
 abbrev pub worked_for : Pile → Edit → List Row → List ℕ → List Row → List Slice → WorkedEdit
-worked_for p e rs reply now cs = worked_with Absent p e rs reply now cs
+worked_for p e rs reply now cs = worked_with None p e rs reply now cs
 
 -- for A's pile
 abbrev pub worked_edit : Edit → List Row → List ℕ → List Row → List Slice → WorkedEdit

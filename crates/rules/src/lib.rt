@@ -2,9 +2,12 @@
 // Every other crate, and every definition in specs/, uses these.
 #![tactic(auto)]
 
+mod conversions;
+mod faults;
 mod limits;
 mod widths;
 
+pub use faults::{Fault, PileField, RowField, refusal_in};
 pub use limits::{
     DEPTH_LIMIT, FREE_GRADE, LOG_SIZE, MORE_PLACES, PLACE_LIMIT, ROW_LIMIT, TABLE_SIZE,
     THICKEST_SLICE, THICKNESS_LIMIT, TIP_LIMIT,
@@ -17,7 +20,7 @@ pub use widths::{
 
 // Refusal number, row and field; all 0 where nothing is refused.
 #[repr(C)]
-#[derive(Clone, Copy)]
+#[derive(Clone, Copy, Default, PartialEq, Eq)]
 pub struct Refusal {
     pub number: u32,
     pub row: u32,
@@ -26,7 +29,7 @@ pub struct Refusal {
 
 // A row of a log, its five fields in order. The index is stored as hundredths plus 100.
 #[repr(C)]
-#[derive(Clone, Copy)]
+#[derive(Clone, Copy, Default, PartialEq, Eq)]
 pub struct Row {
     pub thickness: u16,
     pub kind: u8,
@@ -44,7 +47,7 @@ pub struct Log {
 }
 
 // A pile record, its fields in order. The grade is its 16 bits in two's complement, as a number.
-#[derive(Clone, Copy)]
+#[derive(Clone, Copy, Default)]
 pub struct Pile {
     pub section: u8,
     pub a: u16,
@@ -56,8 +59,8 @@ pub struct Pile {
     pub grade: u16,
 }
 
-// What a sand tip brings: the friction angle of the soil at the base in hundredths of a degree, and two unit weights in N/m³, that of the soil
-// below, at the base, and the mean one of the soils above.
+// The extra record that a tip in sand brings: the friction angle of the soil at the base in hundredths of a degree, and two unit weights in
+// N/m³, that of the soil below, at the base, and the mean one of the soils above.
 #[derive(Clone, Copy)]
 pub struct SandNumbers {
     pub angle: u32,
@@ -65,16 +68,9 @@ pub struct SandNumbers {
     pub above: u32,
 }
 
-// The extra record of a sand tip. Absent is a case of its own, not three zeros.
-#[derive(Clone, Copy)]
-pub enum SandRecord {
-    Absent,
-    Given(SandNumbers),
-}
-
 // A slice as the table holds it: friction in 1/200 Pa, factor in tenths.
 #[repr(C)]
-#[derive(Clone, Copy)]
+#[derive(Clone, Copy, Default)]
 pub struct Slice {
     pub top: u16,
     pub thickness: u16,
@@ -126,7 +122,7 @@ pub struct SandFields {
 
 // What a calculation or an edit replies: line in N/m, the other four in N.
 #[repr(C)]
-#[derive(Clone, Copy)]
+#[derive(Clone, Copy, Default)]
 pub struct Answer {
     pub refusal: Refusal,
     pub kept: u32,
@@ -138,25 +134,11 @@ pub struct Answer {
 }
 
 // What makes two millimetres one stratum.
-#[derive(Clone, Copy)]
+#[derive(Clone, Copy, PartialEq, Eq)]
 pub struct Soil {
     pub kind: u8,
     pub index: u8,
     pub saturation: u8,
-}
-
-// A cell of the tip table: a dash, or kPa.
-#[derive(Clone, Copy)]
-pub enum Cell {
-    Dash,
-    Kpa(u64),
-}
-
-// What the tip table is read to: a dash with a weight above zero, or R in whole Pa.
-#[derive(Clone, Copy)]
-pub enum TipRead {
-    Dashed,
-    Pascals(u64),
 }
 
 // Where a reading stands in a table: row and column of the upper left of four cells, and the weights of the lower row

@@ -1,4 +1,5 @@
 -- The form of an input by its length, the log and the pile record that it is cut into, and that the table of their calculation holds their slices.
+use Rattle.std.specs.Prelude.{None}
 use mathlib.Core.Path.{◌≡◌, refl, sym, ◌∙◌, ap}
 use mathlib.Core.Bool.{Bool, true, false}
 use mathlib.Core.Logic.{⊎_elim, inl, inr}
@@ -11,7 +12,6 @@ use lib.Seq.{take_all}
 use borrow.Author.Tests.{eqb-true, eqb-false, eq-eqb, ne_eqb}
 use Rattle.rules.specs.declared.Answer.{Answer}
 use Rattle.rules.specs.declared.Slice.{Slice}
-use Rattle.rules.specs.declared.SandRecord.TheVariants.{Absent}
 use Rattle.rules.specs.Base.{pick, refuses, when}
 use Rattle.rules.specs.Limits.{forms, log_size, table_size, form_by, limit_of, table_limit}
 use Rattle.rules.specs.Packed.{rows_of, pile_of}
@@ -59,15 +59,15 @@ again (n ∷ ns) len h = go (eqb len (log_size n)) (form_by log_size ns len) (ag
         (λ (e : eqb (table_size m) (table_size n) ≡ false). rw e (on h))
         (sure (eqb (table_size m) (table_size n)))
 
-module _ (log pile zeros after : List ℕ) (a : Answer) (e : a ≡ calculated log pile Absent zeros) (f : after ≡ table_after log pile Absent zeros) (l : length after ≡ length zeros) where
-  held : refuses (lent_checks log pile zeros) ≡ false → TableOf (held_slices_of (rows_of log) (pile_of pile) Absent) after
+module _ (log pile zeros after : List ℕ) (a : Answer) (e : a ≡ calculated log pile None zeros) (f : after ≡ table_after log pile None zeros) (l : length after ≡ length zeros) where
+  held : refuses (lent_checks log pile zeros) ≡ false → TableOf (held_slices_of (rows_of log) (pile_of pile) None) after
   unfolding lent_checks table_after fresh_table limit_of table_limit
   held h =
       let g = long log pile zeros (when_off 0 (lengths_wrong log pile zeros) (first_off (when (lengths_wrong log pile zeros) 1) _ h).0) in
       let size : length after ≡ table_size (limit_of log) = l ∙ g.size in
-      record { form = rw (size, again forms (length log) g.form) g.form; fit = rows_fit (rows_of log) pile Absent; bytes = f ∙ (rw (h, size)) }
+      record { form = rw (size, again forms (length log) g.form) g.form; fit = rows_fit (rows_of log) pile None; bytes = f ∙ (rw (h, size)) }
 
-  pub shown : Printable a after (held_slices_of (rows_of log) (pile_of pile) Absent)
+  pub shown : Printable a after (held_slices_of (rows_of log) (pile_of pile) None)
   unfolding calculated
   shown =
       ⊎_elim (λ (h : refuses (lent_checks log pile zeros) ≡ true). inl (ap (λ (x : Answer). refuses x.refusal) e ∙ rw (h, h)))
@@ -76,9 +76,9 @@ module _ (log pile zeros after : List ℕ) (a : Answer) (e : a ≡ calculated lo
 
 -- what is laid out of the calculation on an input, cut as its form says, is the sheet's text
 pub sheet_laid : (input log pile zeros after bytes : List ℕ) (n at : ℕ) (a : Answer) → n ≡ input_limit input → log ≡ input_log n input → pile ≡ input_pile n input
-    → zeros ≡ replicate (table_size n) 0 → a ≡ calculated log pile Absent zeros → after ≡ table_after log pile Absent zeros → length after ≡ length zeros
+    → zeros ≡ replicate (table_size n) 0 → a ≡ calculated log pile None zeros → after ≡ table_after log pile None zeros → length after ≡ length zeros
     → ((cs : List Slice) → Printable a after cs → Holds page_size bytes at (sheet_of a cs)) → Holds page_size bytes at (sheet_text input)
 unfolding sheet_text
 sheet_laid input log pile zeros after bytes n at a told p q z e f l g =
-    let text : sheet_text input ≡ sheet_of a (held_slices_of (rows_of log) (pile_of pile) Absent) = rw (← told, ← p, ← q, ← z, ← e) in
-    rw text (g (held_slices_of (rows_of log) (pile_of pile) Absent) (shown log pile zeros after a e f l))
+    let text : sheet_text input ≡ sheet_of a (held_slices_of (rows_of log) (pile_of pile) None) = rw (← told, ← p, ← q, ← z, ← e) in
+    rw text (g (held_slices_of (rows_of log) (pile_of pile) None) (shown log pile zeros after a e f l))

@@ -10,9 +10,7 @@ ghost use Rattle.text_page.specs.Places.{Printable};
 ghost use Rattle.text_page.specs.Pages.{page_size, page_of};
 
 use record_lengths::row_limit;
-use rules::{
-    Answer, GRADED_SIZE, MORE_PLACES, PLAIN_SIZE, ROW_SIZE, SLICE_SIZE, SandRecord, TABLE_SIZE,
-};
+use rules::{Answer, GRADED_SIZE, MORE_PLACES, PLAIN_SIZE, ROW_SIZE, SLICE_SIZE, TABLE_SIZE};
 
 const PAGE_SIZE: usize = 4096;
 
@@ -88,7 +86,7 @@ fn put_sheet(bytes: &mut [u8], input: &[u8], limit: usize, table: &mut [u8]) -> 
     let answer = answer_calculation::calculate(
         &input[..end],
         &input[end..],
-        SandRecord::Absent,
+        None,
         table,
     );
     lay_out(bytes, answer, table)
