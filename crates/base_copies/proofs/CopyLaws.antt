@@ -1,21 +1,13 @@
--- Bytes copied into a buffer: one more of them, all of them, and what they leave behind known bytes or over a whole buffer.
+-- Bytes copied into a buffer: what they leave behind known bytes or over a whole buffer.
 use mathlib.Core.Path.{◌≡◌, refl}
 use mathlib.Core.List.{List, [], ◌++◌, append-nil}
-use Prim.Native.Nat.{ℕ, ◌+◌, ◌<◌, ◌≤◌}
-use native.Mathlib.Numerals.{add-one}
-use lib.ListN.{length, get_or, take, drop, set, drop_of_length-le}
-use lib.Seq.{paste, paste-suc, take_at, drop_at, drop-drop, take-length}
+use Prim.Native.Nat.{ℕ, ◌+◌, ◌≤◌}
+use lib.ListN.{length, take, drop, drop_of_length-le}
+use lib.Seq.{take_at, drop_at, drop-drop}
 
 -- d₀ with v from byte `at` on
 abbrev pub with : List ℕ → ℕ → List ℕ → List ℕ
 with d₀ at v = take at d₀ ++ v ++ drop (at + length v) d₀
-
-module _ (d₀ d s : List ℕ) (at i : ℕ) (e : d ≡ paste d₀ at s i) where
-  pub copy_more : at + i < length d₀ → i < length s → set d (at + i) (get_or s i 0) ≡ paste d₀ at s (i + 1)
-  copy_more h k = rw (e, add-one) (paste-suc d₀ at s i 0 h k)
-
-  pub copy_end : i ≡ length s → d ≡ with d₀ at s
-  copy_end f = rw (e, f, take-length)
 
 -- v put behind p
 pub with_behind : (p q v : List ℕ) (at n : ℕ) → length p ≡ at → length v ≡ n → with (p ++ q) at v ≡ p ++ v ++ drop n q

@@ -8,9 +8,5 @@ pub fn copy_in(d: &mut [u8], at: usize, s: &[u8])
     requires { at + length s.now ≤ length d.old }
     ensures { d.new ≡ take at d.old ++ s.now ++ drop (at + length s.now) d.old }
 {
-    let mut i: usize = 0;
-    while i < s.len() {
-        d[at + i] = s[i];
-        i += 1;
-    }
+    d[at..at + s.len()].copy_from_slice(s);
 }
