@@ -4,83 +4,77 @@
 ghost use Rattle.std.specs.Prelude.{◌≡◌};
 ghost use Rattle.rules.specs.Base.{when};
 ghost use Rattle.rules.specs.Checks.{a_in_range, b_in_range, wrong_pile_field, section_check, method_wrong};
+ghost use Rattle.rules.specs.Faults.{pile_field_of, refusal_in};
 ghost use Rattle.rules.proofs.Groups.{pile_checks};
 
-use base_replies::{first, in_range, refuse};
-use rules::{Pile, Refusal};
+use rules::{Fault, Pile, PileField};
 
-fn a_in_range(p: Pile) -> bool
-    ensures { result ≡ a_in_range p }
+fn a_in_range(pile: Pile) -> bool
+    ensures { result ≡ a_in_range pile }
 {
-    if p.section == 1 {
-        in_range(150, 2000, p.a)
+    if pile.section == 1 {
+        (150..=2000).contains(&pile.a)
     } else {
-        in_range(300, 4000, p.a)
+        (300..=4000).contains(&pile.a)
     }
 }
 
-fn b_in_range(p: Pile) -> bool
-    ensures { result ≡ b_in_range p }
+fn b_in_range(pile: Pile) -> bool
+    ensures { result ≡ b_in_range pile }
 {
-    if p.section == 1 {
-        p.b == 0
+    if pile.section == 1 {
+        pile.b == 0
     } else {
-        in_range(300, 4000, p.b)
+        (300..=4000).contains(&pile.b)
     }
 }
 
-// The first of section kind, a, b and the zero bits that is wrong, 0 where none is.
+// The first of section kind, a, b and the zero bits that is wrong.
 #[tactic(auto, unfolding(rules::specs::Checks::wrong_pile_field))]
-fn wrong_pile_field(p: Pile) -> u32
-    ensures { result ≡ wrong_pile_field p }
+fn wrong_pile_field(pile: Pile) -> Option<PileField>
+    ensures { pile_field_of result ≡ wrong_pile_field pile }
 {
-    if !in_range(1, 2, p.section as u16) {
-        return 1;
+    if !(1..=2).contains(&pile.section) {
+        return Some(PileField::Section);
     }
-    if !a_in_range(p) {
-        return 2;
+    if !a_in_range(pile) {
+        return Some(PileField::A);
     }
-    if !b_in_range(p) {
-        return 3;
+    if !b_in_range(pile) {
+        return Some(PileField::B);
     }
-    if p.zero != 0 {
-        return 4;
+    if pile.zero != 0 {
+        return Some(PileField::Zero);
     }
-    0
+    None
 }
 
 // Check 5.
 #[tactic(auto, unfolding(rules::specs::Checks::section_check))]
-fn section_refusal(p: Pile) -> Refusal
-    ensures { result ≡ section_check p }
+fn section_refusal(pile: Pile) -> Result<(), Fault>
+    ensures { refusal_in result ≡ section_check pile }
 {
-    let f = wrong_pile_field(p);
-    if 0 < f {
-        return Refusal {
-            number: 5,
-            row: 0,
-            field: f,
-        };
+    match wrong_pile_field(pile) {
+        Some(field) => Err(Fault::Section { field }),
+        None => Ok(()),
     }
-    refuse(0)
 }
 
 // Check 6.
 #[tactic(auto, unfolding(rules::specs::Base::when))]
-fn method_refusal(p: Pile) -> Refusal
-    ensures { result ≡ when (method_wrong p) 6 }
+fn method_refusal(pile: Pile) -> Result<(), Fault>
+    ensures { refusal_in result ≡ when (method_wrong pile) 6 }
 {
-    if !in_range(1, 3, p.method as u16) {
-        return refuse(6);
+    if !(1..=3).contains(&pile.method) {
+        return Err(Fault::Method);
     }
-    refuse(0)
+    Ok(())
 }
 
-#[tactic(auto, unfolding(rules::proofs::Groups::pile_checks))]
-pub fn pile_refusal(p: Pile) -> Refusal
-    ensures { result ≡ pile_checks p }
+#[tactic(auto, unfolding(rules::proofs::Groups::pile_checks, rules::specs::Base::first))]
+pub fn pile_refusal(pile: Pile) -> Result<(), Fault>
+    ensures { refusal_in result ≡ pile_checks pile }
 {
-    let five = section_refusal(p);
-    let six = method_refusal(p);
-    first(five, six)
+    section_refusal(pile)?;
+    method_refusal(pile)
 }

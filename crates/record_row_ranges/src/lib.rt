@@ -3,10 +3,10 @@
 
 ghost use Rattle.std.specs.Prelude.{◌≡◌, eqb};
 ghost use Rattle.rules.specs.Checks.{index_in_range, wrong_field};
+ghost use Rattle.rules.specs.Faults.{row_field_of};
 ghost use Rattle.rules.specs.Reading.{row_zero};
 
-use base_replies::in_range;
-use rules::{Row, THICKNESS_LIMIT};
+use rules::{Row, RowField, THICKNESS_LIMIT};
 
 fn index_in_range(kind: u8, index: u8) -> bool
     ensures { result ≡ index_in_range kind index }
@@ -20,45 +20,33 @@ fn index_in_range(kind: u8, index: u8) -> bool
 
 // Whether every field is 0, as in an unused place.
 #[tactic(auto, unfolding(rules::specs::Base::all_zero))]
-pub fn row_zero(r: Row) -> bool
-    ensures { result ≡ row_zero r }
+pub fn row_zero(row: Row) -> bool
+    ensures { result ≡ row_zero row }
 {
-    if r.thickness != 0 {
-        return false;
-    }
-    if r.kind != 0 {
-        return false;
-    }
-    if r.index != 0 {
-        return false;
-    }
-    if r.saturation != 0 {
-        return false;
-    }
-    r.zero == 0
+    row == Row::default()
 }
 
-// The lowest field out of range, 0 where there is none.
+// The lowest field out of range.
 #[tactic(auto, unfolding(rules::specs::Checks::wrong_field))]
-pub fn row_field(r: Row) -> u32
-    ensures { result ≡ wrong_field r }
+pub fn row_field(row: Row) -> Option<RowField>
+    ensures { row_field_of result ≡ wrong_field row }
 {
-    if !in_range(1, THICKNESS_LIMIT, r.thickness) {
-        return 1;
+    if !(1..=THICKNESS_LIMIT).contains(&row.thickness) {
+        return Some(RowField::Thickness);
     }
-    if !in_range(1, 6, r.kind as u16) {
-        return 2;
+    if !(1..=6).contains(&row.kind) {
+        return Some(RowField::Kind);
     }
-    if !index_in_range(r.kind, r.index) {
-        return 3;
+    if !index_in_range(row.kind, row.index) {
+        return Some(RowField::Index);
     }
-    if 100 < r.saturation {
-        return 4;
+    if 100 < row.saturation {
+        return Some(RowField::Saturation);
     }
-    if r.zero != 0 {
-        return 5;
+    if row.zero != 0 {
+        return Some(RowField::Zero);
     }
-    0
+    None
 }
 
 // Whether every field is in its range: one answer for the rows of a log, most of which are good.
@@ -67,17 +55,9 @@ pub fn row_good(row: Row) -> bool
     ensures { result ≡ eqb (wrong_field row) 0 }
 {
     let index = index_in_range(row.kind, row.index);
-    if !in_range(1, THICKNESS_LIMIT, row.thickness) {
-        return false;
-    }
-    if !in_range(1, 6, row.kind as u16) {
-        return false;
-    }
-    if !index {
-        return false;
-    }
-    if 100 < row.saturation {
-        return false;
-    }
-    row.zero == 0
+    (1..=THICKNESS_LIMIT).contains(&row.thickness)
+        && (1..=6).contains(&row.kind)
+        && index
+        && row.saturation <= 100
+        && row.zero == 0
 }
