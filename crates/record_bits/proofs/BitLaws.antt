@@ -1,5 +1,5 @@
--- Zero bytes, and a part of a list that goes to its end.
-use Rattle.std.proofs.Common.{◌≡◌, ℕ, zero, suc, ◌+◌, ◌-◌, ◌≤◌, List, [], ◌∷◌, length, get_or, take, drop, replicate, refl, zero-mul, arith, length-drop, get_or-drop, take_all}
+-- Zero bytes, the remainder by a power of two, and a part of a list that goes to its end.
+use Rattle.std.proofs.Common.{◌≡◌, ℕ, zero, suc, ◌+◌, ◌-◌, ◌%◌, ◌^◌, ◌<◌, ◌≤◌, List, [], ◌∷◌, length, get_or, take, drop, replicate, refl, zero-mul, mod-lt, pow_pos, arith, length-drop, get_or-drop, take_all}
 use Rattle.rules.specs.Widths.{join, bytes}
 use Rattle.rules.specs.Packed.{number_at}
 
@@ -14,6 +14,9 @@ number_blank s i at n b h = join_blank (bytes n) (drop at s) (λ (k : ℕ). rw g
     join_blank : (ws t : List ℕ) → ((k : ℕ) → get_or t k 0 ≡ 0) → join ws t ≡ 0
     join_blank [] t z = refl
     join_blank (w ∷ ws) t z = rw (z 0, zero-mul, join_blank ws (drop 1 t) (λ (k : ℕ). rw get_or-drop (z (1 + k))))
+
+pub remainder_small : (w n : ℕ) → w % 2 ^ n < 2 ^ n
+remainder_small w n = mod-lt w (pow_pos n)
 
 pub zeros : (n k : ℕ) → ◌≡◌ {A = ℕ} (get_or (replicate n 0) k 0) 0
 zeros zero k = refl

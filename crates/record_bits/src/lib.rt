@@ -1,4 +1,4 @@
-// A bit reader and a bit writer by value: each call hands back the moved cursor with its value.
+// A bit reader and a bit writer over a word.
 #![tactic(auto)]
 
 ghost use Rattle.std.specs.Prelude.{◌≡◌, ◌+◌, ◌^◌, ◌<◌, ◌≤◌};
@@ -16,12 +16,6 @@ pub struct Cursor {
     pub at: usize,
 }
 
-#[derive(Clone, Copy)]
-pub struct Bits {
-    pub value: u64,
-    pub next: Cursor,
-}
-
 fn pow2(n: usize) -> u64
     requires { n < word_bits }
     ensures { (result ≡ 2 ^ n) × (0 < result) }
@@ -29,30 +23,34 @@ fn pow2(n: usize) -> u64
     1 << n
 }
 
-// The n bits at the cursor.
-pub fn take_bits(c: Cursor, n: usize) -> Bits
-    requires { (0 < n) × (n < word_bits) × (c.at + n ≤ word_bits) }
-    ensures { Taken c.word c.at n result.value result.next.word result.next.at }
-{
-    let end = c.at + n;
-    let v = (c.word >> (WORD_BITS - end)) % pow2(n);
-    Bits {
-        value: v,
-        next: Cursor {
-            word: c.word,
-            at: end,
-        },
+impl Cursor {
+    // Before the first field of a record that is the last `bits` bits of the word.
+    pub fn over(word: u64, bits: usize) -> Cursor
+        requires { bits ≤ word_bits }
+        ensures { (result.word ≡ word) × (result.at + bits ≡ word_bits) }
+    {
+        Cursor {
+            word,
+            at: WORD_BITS - bits,
+        }
     }
-}
 
-// v in the n bits at the cursor, where the bits from the cursor on are 0. A v of more bits is carried into those before.
-pub fn put_bits(c: Cursor, v: u64, n: usize) -> Cursor
-    requires { (0 < n) × (c.at + n ≤ word_bits) }
-    ensures { Written c.word c.at v n result.word result.at }
-{
-    let at = c.at + n;
-    Cursor {
-        word: std::num::wrapping_add_u64(c.word, v << (WORD_BITS - at)),
-        at: at,
+    // The n bits at the cursor.
+    #[tactic(auto, using(crate::proofs::BitLaws::remainder_small), unfolding(crate::specs::Word::field_of))]
+    pub fn take(&mut self, n: usize) -> u64
+        requires { (0 < n) × (n < word_bits) × (self.old.at + n ≤ word_bits) }
+        ensures { Taken self.old.word self.old.at n result self.new.word self.new.at }
+    {
+        self.at += n;
+        (self.word >> (WORD_BITS - self.at)) % pow2(n)
+    }
+
+    // The value in the n bits at the cursor, where the bits from the cursor on are 0. A value of more bits is carried into those before.
+    pub fn put(&mut self, value: u64, n: usize)
+        requires { (0 < n) × (self.old.at + n ≤ word_bits) }
+        ensures { Written self.old.word self.old.at value n self.new.word self.new.at }
+    {
+        self.at += n;
+        self.word = self.word.wrapping_add(value << (WORD_BITS - self.at));
     }
 }
