@@ -5,16 +5,11 @@ ghost use Rattle.std.specs.Prelude.{◌≡◌, ◌+◌, ◌*◌, ◌-◌, ◌<�
 ghost use Rattle.rules.specs.Bounds.{weighed_bound};
 ghost use Rattle.norm_columns.specs.Across.{Across};
 
-use base_order::smaller;
-
 // How far an index stands right of a table's first column. Both are stored as hundredths plus 100.
 pub fn past(first: u8, index: u8) -> u64
     ensures { (result ≡ max first index - first) × (result < 256) }
 {
-    if index < first {
-        return 0;
-    }
-    index as u64 - first as u64
+    u64::from(index.saturating_sub(first))
 }
 
 // The column left of a reading, and tenths of the way to the next.
@@ -29,8 +24,8 @@ pub fn column_for(q: u64, c: u64) -> Column
     requires { c ≤ 7 }
     ensures { Across c q result }
 {
-    let right = smaller(q, (c + 1) * 10);
-    let j = smaller(c, right / 10);
+    let right = q.min((c + 1) * 10);
+    let j = c.min(right / 10);
     Column {
         number: j as usize,
         across: right - j * 10,

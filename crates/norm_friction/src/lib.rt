@@ -9,7 +9,6 @@ ghost use Rattle.rules.specs.Tables.{friction_rows};
 ghost use Rattle.norm_columns.specs.Across.{Across};
 ghost use Rattle.norm_friction.specs.Columns.{FrictionColumn, column_friction};
 
-use base_order::wide;
 use norm_columns::{Column, mean};
 use rules::Soil;
 
@@ -30,18 +29,24 @@ const ROWS: [[u8; 9]; 13] = [
     [100, 70, 50, 36, 22, 13, 9, 8, 7],
 ];
 
-pub fn rows() -> [[u8; 9]; 13]
-    ensures { result ≡ friction_rows }
+// The rows as they are printed.
+#[derive(Drop)]
+pub struct FrictionRows {
+    cells: [[u8; 9]; 13],
+    ghost printed: { cells ≡ friction_rows },
+}
+
+pub fn rows() -> FrictionRows
+    ensures { result.cells ≡ friction_rows }
 {
-    ROWS
+    FrictionRows { cells: ROWS }
 }
 
 // Hundredths right of column 0.2.
 fn hundredths(soil: Soil) -> u64
     ensures { result ≡ numbers.hundredths soil }
 {
-    let kind = soil.kind;
-    match kind {
+    match soil.kind {
         0 | 1 => 0,
         2 => 10,
         3 => 20,
@@ -49,12 +54,13 @@ fn hundredths(soil: Soil) -> u64
     }
 }
 
-// A row's cells in column j and the next, weighed by tenths across.
-fn along(row: &[u8; 9], j: usize, across: u64) -> u64
-    requires { (j < 8) × (across ≤ 10) }
-    ensures { (result ≡ (10 - across) * get_or row.now j 0 + across * get_or row.now (j + 1) 0) × (result ≤ cell_bound * 10) }
+// A row's cells in a column and the next, weighed by tenths across.
+fn along(row: &[u8; 9], column: Column) -> u64
+    requires { FrictionColumn column }
+    ensures { (result ≡ (10 - column.across) * get_or row.now column.number 0 + column.across * get_or row.now (column.number + 1) 0) × (result ≤ cell_bound * 10) }
 {
-    mean(10, across, wide(row[j]), wide(row[j + 1]))
+    let j = column.number;
+    mean(10, column.across, u64::from(row[j]), u64::from(row[j + 1]))
 }
 
 // The column that friction is read from in a soil. No depth changes it.
@@ -64,16 +70,15 @@ pub fn column_of(soil: Soil) -> Column
     norm_columns::column_for(hundredths(soil), 7)
 }
 
-// In 1/200 Pa, in a column and at a mid-depth in half millimetres: two rows weighed, above 1 m by as much of a reading as counts.
-pub fn friction(rows: &[[u8; 9]; 13], column: Column, mid: u64) -> u64
-    requires { (rows.now ≡ friction_rows) × FrictionColumn column }
-    ensures { (result ≡ column_friction column mid) × (result ≤ friction_bound) }
-{
-    let stands = norm_friction_rows::friction_row(mid);
-    let i = stands.row;
-    let part = stands.part;
-    let whole = stands.whole;
-    let upper = along(&rows[i], column.number, column.across);
-    let lower = along(&rows[i + 1], column.number, column.across);
-    mean(whole, part, upper, lower)
+impl FrictionRows {
+    // In 1/200 Pa, in a column and at a mid-depth in half millimetres: two rows weighed, above 1 m by as much of a reading as counts.
+    pub fn friction(&self, column: Column, mid: u64) -> u64
+        requires { FrictionColumn column }
+        ensures { (result ≡ column_friction column mid) × (result ≤ friction_bound) }
+    {
+        let stands = norm_friction_rows::friction_row(mid);
+        let upper = along(&self.cells[stands.row], column);
+        let lower = along(&self.cells[stands.row + 1], column);
+        mean(stands.whole, stands.part, upper, lower)
+    }
 }
