@@ -1,79 +1,40 @@
 -- While rows are taken the stratum is open; the row below it goes to it, or parts it from the next.
-use Rattle.std.proofs.Common.{refl, sym, ◌∙◌, arith}
-use Rattle.rules.proofs.PassedLaws.{known}
-use Rattle.ground_strata.proofs.StratumLaws.{open_deep, first_fits, open_one, next_fits, row_thick, row_deep, open_more, reaches_parted}
+use Rattle.std.proofs.Common.{refl, ◌∙◌, ap, arith}
+use mathlib.Core.Bool.{not}
+use Rattle.ground_strata.proofs.LogLaws.{row_fits}
+use Rattle.ground_strata.proofs.StratumLaws.{told, first_there, open_one, open_deep, next_there, row_deep, open_more, reaches_parted}
 use Rattle.ground_strata.proofs.stratum_from.Goals as goal
 
--- the first row lies in the log
-pub overflow_mul-first : goal.overflow_mul-first
-overflow_mul-first c = let k = known _ c.requires.0 in omega (arith, first_fits c.requires.0 c.requires.1)
-
-pub overflow_add-first : goal.overflow_add-first
-overflow_add-first c = let k = known _ c.requires.0 in omega (arith, first_fits c.requires.0 c.requires.1)
-
-pub row_inside-row-requires : goal.row_inside-row-requires
-row_inside-row-requires c = first_fits c.requires.0 c.requires.1
+pub row_number-row-requires : goal.row_number-row-requires
+row_number-row-requires c = (c.requires.0, first_there c.requires.0 c.requires.1)
 
 pub overflow_add-bottom : goal.overflow_add-bottom
-overflow_add-bottom c =
-    omega (arith, open_deep _ c.requires.0 (open_one c.requires.0 c.requires.1 _ _ c.row_inside-row.ensures refl))
+overflow_add-bottom c = omega (arith, open_deep (open_one c.requires.0 c.requires.1 _ _ _ _ c.row_number-row.ensures refl refl refl))
 
 pub overflow_add-next : goal.overflow_add-next
-overflow_add-next c = let k = known _ c.requires.0 in omega (arith, first_fits c.requires.0 c.requires.1)
+overflow_add-next c = omega (arith, row_fits _ _ c.requires.0 (first_there c.requires.0 c.requires.1))
 
 pub loop-bottom-init : goal.loop-bottom-init
-loop-bottom-init c = record {
-  passed = c.requires.0;
-  begins = c.requires.1;
-  open_here = open_one c.requires.0 c.requires.1 _ _ c.row_inside-row.ensures c.soil_of-soil.ensures;
-}
+loop-bottom-init c = open_one c.requires.0 c.requires.1 _ _ _ _ c.row_number-row.ensures c.from-soil.ensures refl (omega arith)
 
--- the next row lies in the log
-pub overflow_mul-next : goal.overflow_mul-next
-overflow_mul-next c =
-    let l = c.loop-bottom.invariant in
-    let k = known _ l.passed in
-    omega (arith, next_fits l.passed l.begins l.open_here c.loop-bottom-test.true)
+pub row_number-below-requires : goal.row_number-below-requires
+row_number-below-requires c = let taken = c.loop-bottom.invariant in (taken.passed, next_there taken c.loop-bottom-test.true)
 
-pub overflow_add-next-in-loop-bottom : goal.overflow_add-next-in-loop-bottom
-overflow_add-next-in-loop-bottom c =
-    let l = c.loop-bottom.invariant in
-    let k = known _ l.passed in
-    omega (arith, next_fits l.passed l.begins l.open_here c.loop-bottom-test.true)
-
-pub row_inside-below-requires : goal.row_inside-below-requires
-row_inside-below-requires c =
-    let l = c.loop-bottom.invariant in
-    next_fits l.passed l.begins l.open_here c.loop-bottom-test.true
-
-pub returns-then-not-same_soil : goal.returns-then-not-same_soil
-returns-then-not-same_soil c =
-    let l = c.loop-bottom.invariant in
-    let e = rw c.soil_of.ensures at c.same_soil.ensures in
-    reaches_parted l.passed l.begins l.open_here c.loop-bottom-test.true _ c.row_inside-below.ensures (sym e ∙ c.if-not-same_soil.true)
+pub returns-then-ne : goal.returns-then-ne
+returns-then-ne c =
+    let same_is = told _ _ c.ne.ensures c.from-in-loop-bottom.ensures in
+    reaches_parted c.loop-bottom.invariant c.loop-bottom-test.true _ c.row_number-below.ensures (same_is ∙ ap not c.if-ne.true)
 
 pub overflow_add-bottom-in-loop-bottom : goal.overflow_add-bottom-in-loop-bottom
-overflow_add-bottom-in-loop-bottom c =
-    let l = c.loop-bottom.invariant in
-    omega (arith, row_deep l.passed l.begins l.open_here c.loop-bottom-test.true _ c.row_inside-below.ensures)
+overflow_add-bottom-in-loop-bottom c = omega (arith, row_deep c.loop-bottom.invariant c.loop-bottom-test.true _ c.row_number-below.ensures)
 
-pub overflow_add-next-in-loop-bottom-2 : goal.overflow_add-next-in-loop-bottom-2
-overflow_add-next-in-loop-bottom-2 c =
-    let l = c.loop-bottom.invariant in
-    let k = known _ l.passed in
-    omega (arith, next_fits l.passed l.begins l.open_here c.loop-bottom-test.true)
+pub overflow_add-next-in-loop-bottom : goal.overflow_add-next-in-loop-bottom
+overflow_add-next-in-loop-bottom c = let taken = c.loop-bottom.invariant in omega (arith, row_fits _ _ taken.passed (next_there taken c.loop-bottom-test.true))
 
 pub loop-bottom-smaller : goal.loop-bottom-smaller
-loop-bottom-smaller c =
-    let l = c.loop-bottom.invariant in
-    omega (arith, c.loop-bottom-test.true, row_thick l.passed l.begins l.open_here c.loop-bottom-test.true _ c.row_inside-below.ensures)
+loop-bottom-smaller c = omega (arith, row_deep c.loop-bottom.invariant c.loop-bottom-test.true _ c.row_number-below.ensures)
 
 pub loop-bottom-preserved : goal.loop-bottom-preserved
 loop-bottom-preserved c =
-    let l = c.loop-bottom.invariant in
-    let e = rw c.soil_of.ensures at c.same_soil.ensures in
-    record {
-      passed = l.passed;
-      begins = l.begins;
-      open_here = open_more l.passed l.begins l.open_here c.loop-bottom-test.true _ c.row_inside-below.ensures (sym e ∙ c.if-not-same_soil.false);
-    }
+    let same_is = told _ _ c.ne.ensures c.from-in-loop-bottom.ensures in
+    open_more c.loop-bottom.invariant c.loop-bottom-test.true _ c.row_number-below.ensures _ (same_is ∙ ap not c.if-ne.false) (omega arith)
