@@ -4,8 +4,9 @@
 mod clay;
 mod depths;
 mod sand;
-mod seat;
+mod tip;
 
 pub use clay::clay_refusal;
 pub use depths::depth_refusal;
 pub use sand::sand_refusal;
+pub use tip::Tip;

@@ -1,68 +1,53 @@
 // Checks 9, 10 and 17 of a tip in sand that brings its extra record. (Without it a sand tip is 9.)
-ghost use Rattle.std.specs.Prelude.{◌≡◌, ◌≤◌};
+ghost use Rattle.std.specs.Prelude.{◌≡◌};
 ghost use Rattle.rules.specs.Base.{neg, within};
-ghost use Rattle.rules.specs.Base as base;
 ghost use Rattle.rules.specs.Checks.{record_wrong};
+ghost use Rattle.rules.specs.Faults.{refusal_in};
 ghost use Rattle.rules.specs.SandTips.{reduced};
 ghost use Rattle.rules.proofs.Groups.{late_in_sand};
 
-use crate::seat::seat_short;
+use crate::tip::Tip;
 use norm_grades::below_cut;
-use rules::{Pile, SandNumbers};
+use rules::{Fault, Pile, SandNumbers};
 
 // An angle in hundredths of a degree: under 23 or over 39 degrees after the 0.9.
 fn angle_wrong(angle: u32) -> bool
     ensures { result ≡ neg (within 23000 39000 (reduced angle)) }
 {
-    let t = angle as u64 * 9;
-    if t < 23000 {
-        return true;
-    }
-    39000 < t
+    let t = u64::from(angle) * 9;
+    !(23000..=39000).contains(&t)
 }
 
 // A unit weight of 0 or over 30,000 N/m³.
 fn weight_wrong(weight: u32) -> bool
     ensures { result ≡ neg (within 1 30000 weight) }
 {
-    if weight < 1 {
-        return true;
-    }
-    30000 < weight
+    !(1..=30000).contains(&weight)
 }
 
 // One of the three numbers out of range, or h/d under 4.
 fn record_wrong(pile: Pile, brought: SandNumbers) -> bool
     ensures { result ≡ record_wrong pile (Some brought) }
 {
-    if angle_wrong(brought.angle) {
-        return true;
-    }
-    if weight_wrong(brought.below) {
-        return true;
-    }
-    if weight_wrong(brought.above) {
-        return true;
-    }
-    below_cut(pile.grade, pile.tip) < 4 * pile.a as u64
+    angle_wrong(brought.angle)
+        || weight_wrong(brought.below)
+        || weight_wrong(brought.above)
+        || below_cut(pile.grade, pile.tip) < 4 * u64::from(pile.a)
 }
 
-// By the extra record and the top of the tip's stratum: the number of the first that refuses, or 0.
+// The first that refuses.
 #[tactic(auto, unfolding(rules::proofs::Groups::late_in_sand, rules::specs::Base::first, rules::specs::Base::when))]
-pub fn sand_refusal(pile: Pile, brought: SandNumbers, top: u64) -> u32
-    requires { (pile.head ≤ pile.tip) × (top ≤ pile.tip) }
-    ensures { base.refuse result ≡ late_in_sand top pile (Some brought) }
+pub fn sand_refusal(tip: Tip, brought: SandNumbers) -> Result<(), Fault>
+    ensures { refusal_in result ≡ late_in_sand tip.top tip.pile (Some brought) }
 {
-    if pile.section == 2 {
-        return 9;
+    if tip.pile.section == 2 {
+        return Err(Fault::SandUnread);
     }
-    let short = seat_short(pile, top);
-    let wrong = record_wrong(pile, brought);
-    if short {
-        return 10;
+    if tip.seat_short() {
+        return Err(Fault::SeatShort);
     }
-    if wrong {
-        return 17;
+    if record_wrong(tip.pile, brought) {
+        return Err(Fault::SandWrong);
     }
-    0
+    Ok(())
 }

@@ -14,7 +14,6 @@ use Rattle.norm_friction_rows.proofs as norm_friction_rows
 use Rattle.norm_tip_rows.proofs as norm_tip_rows
 use Rattle.norm_friction.proofs as norm_friction
 use Rattle.norm_tips.proofs as norm_tips
-use Rattle.norm_tip_reads.proofs as norm_tip_reads
 use Rattle.norm_scales.proofs as norm_scales
 use Rattle.norm_alphas.proofs as norm_alphas
 use Rattle.norm_sand_caps.proofs as norm_sand_caps
@@ -61,12 +60,6 @@ friction _ _ _ h g = cc
 
 pub tip_resistance : Settled norm_tips.tip_resistance.Kinds.ps norm_tips.tip_resistance.Kinds.r norm_tips.tip_resistance.Reads.Pre norm_tips.tip_resistance.Reads.Learnt
 tip_resistance _ _ _ h g = cc
-
-pub pascals : Settled norm_tip_reads.pascals.Kinds.ps norm_tip_reads.pascals.Kinds.r norm_tip_reads.pascals.Reads.Pre norm_tip_reads.pascals.Reads.Learnt
-pascals _ _ _ h g = cc
-
-pub is_dash : Settled norm_tip_reads.is_dash.Kinds.ps norm_tip_reads.is_dash.Kinds.r norm_tip_reads.is_dash.Reads.Pre norm_tip_reads.is_dash.Reads.Learnt
-is_dash _ _ _ h g = cc
 
 pub on_angles : Settled norm_scales.on_angles.Kinds.ps norm_scales.on_angles.Kinds.r norm_scales.on_angles.Reads.Pre norm_scales.on_angles.Reads.Learnt
 on_angles _ _ _ h g = cc
