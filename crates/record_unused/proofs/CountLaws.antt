@@ -9,7 +9,7 @@ use lib.Dec.{eqb, ltb}
 use lib.ListN.{length, drop}
 use Rattle.rules.specs.Base.{either, neg, all_zero}
 use Rattle.rules.specs.Records.{row_size}
-use Rattle.rules.specs.Limits.{forms, log_size, form_by, limit_of}
+use Rattle.rules.specs.Limits.{limit_of}
 use Rattle.rules.specs.Packed.{count_of}
 use Rattle.rules.specs.Checks.{count_wrong, unused_wrong}
 use Rattle.rules.proofs.FormLaws.{limit_long}
@@ -28,18 +28,3 @@ counted s w = right (limit_of s) (count_of s) (all_zero (drop (1 + count_of s * 
 -- the rows stand inside the log
 pub inside : (s : List ℕ) → 0 < limit_of s → unused_wrong s ≡ false → 1 + count_of s * row_size ≤ length s
 inside s h w = omega (arith, (counted s w).1, limit_long s h)
-
--- 2, by the limit that the log's length tells
-module _ (s : List ℕ) (limit : ℕ) (e : limit ≡ form_by log_size forms (length s)) where
-  pub count_unused : count_wrong limit (count_of s) ≡ true → true ≡ unused_wrong s
-  unfolding unused_wrong limit_of
-  count_unused w = rw (← e, w)
-
-  pub then_unused : (at : ℕ) → count_wrong limit (count_of s) ≡ false → at ≡ 1 + count_of s * row_size → neg (all_zero (drop at s)) ≡ unused_wrong s
-  unfolding unused_wrong limit_of
-  then_unused at w a = rw (← e, w, a)
-
-  -- and 1 of a log that is read
-  pub form : (limit ≡ 0 → ⊥) → 0 < limit_of s
-  unfolding limit_of
-  form h = omega (arith, h)
