@@ -1,3 +1,2 @@
 -- Laws of the checks of a log.
 pub mod RowsLaws
-pub mod CheckLaws

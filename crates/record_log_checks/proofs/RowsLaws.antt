@@ -1,30 +1,32 @@
 -- The rows of a log one after the other: those that are left to check, and those that are read.
-use mathlib.Core.Path.{◌≡◌, refl, ap}
-use mathlib.Core.Bool.{true, false}
+use mathlib.Core.Path.{◌≡◌, ap}
 use mathlib.Core.List.{List, ◌∷◌}
 use Prim.Native.Nat.{ℕ, suc, ◌+◌, ◌*◌, ◌-◌, ◌^◌, ◌<◌, ◌≤◌}
 use native.Mathlib.Omega.{arith}
-use borrow.Author.Tests.{lt-ltb, le-ltb, eqb-true, eqb-false}
-use lib.Dec.{eqb}
 use Rattle.rules.specs.declared.Row.{Row}
 use Rattle.rules.specs.declared.Refusal.{Refusal}
+use Rattle.rules.specs.declared.faults.RowField.{RowField}
+use Rattle.rules.specs.declared.faults.RowField.TheVariants.{Thickness, Kind, Index, Saturation, Zero}
 use Rattle.rules.specs.Base.{nothing}
 use Rattle.rules.specs.Records.{row_size}
 use Rattle.rules.specs.Packed.{row_at, rows_from}
 use Rattle.rules.specs.Ground.{depth_of}
 use Rattle.rules.specs.Checks.{wrong_field, first_wrong}
-use Rattle.record_log_checks.specs.declared.Checked.{Checked}
-use Rattle.record_log_checks.specs.Checks.{rows_checked}
+use Rattle.rules.specs.Faults.{row_field_number}
 
--- rows of which the first is row k, and f its lowest field out of range
-module _ (k f : ℕ) (r : Row) (rs ts : List Row) (all : Refusal) (head : ts ≡ r ∷ rs) (field : f ≡ wrong_field r) (left : first_wrong k ts ≡ all) where
-  pub wrong_here : 0 < f → ◌≡◌ {A = Refusal} (record { number = 3; row = k; field = f }) all
+-- rows of which the first is row k
+module _ (k : ℕ) (r : Row) (rs ts : List Row) (all : Refusal) (head : ts ≡ r ∷ rs) (left : first_wrong k ts ≡ all) where
+  pub wrong_here : (field : RowField) → row_field_number field ≡ wrong_field r → ◌≡◌ {A = Refusal} (record { number = 3; row = k; field = row_field_number field }) all
   unfolding first_wrong
-  wrong_here h = rw (head, ← field, lt-ltb 0 f h) at left
+  wrong_here Thickness e = rw (head, ← e) at left
+  wrong_here Kind e = rw (head, ← e) at left
+  wrong_here Index e = rw (head, ← e) at left
+  wrong_here Saturation e = rw (head, ← e) at left
+  wrong_here Zero e = rw (head, ← e) at left
 
-  pub wrong_below : f ≤ 0 → first_wrong (k + 1) rs ≡ all
+  pub wrong_below : wrong_field r ≡ 0 → first_wrong (k + 1) rs ≡ all
   unfolding first_wrong
-  wrong_below h = rw (head, ← field, le-ltb 0 f h) at left
+  wrong_below e = rw (head, e) at left
 
 -- the rows that are left when i of n rows are checked
 abbrev pub rest : List ℕ → ℕ → ℕ → List Row
@@ -51,27 +53,24 @@ checking_start s n =
 
 module _ (s : List ℕ) (n d i : ℕ) (k : Checking s n d i) where
   module _ (r : Row) (h : i < n) (e : r ≡ row_at s (1 + i * row_size)) where
-    pub checking_wrong : (f : ℕ) → f ≡ wrong_field r → eqb (wrong_field r) 0 ≡ false
-        → ◌≡◌ {A = Checked} (record { refusal = record { number = 3; row = i + 1; field = f }; depth = 0 }) (rows_checked s n)
-    unfolding rows_checked
-    checking_wrong f g w = rw (← (wrong_here (i + 1) f r _ _ _ (left_row s n i r h e) g k.left (omega (arith, eqb-false (wrong_field r) 0 w))))
+    pub checking_wrong : (field : RowField) → row_field_number field ≡ wrong_field r → ◌≡◌ {A = Refusal} (record { number = 3; row = i + 1; field = row_field_number field }) (first_wrong 1 (rows_from s 1 n))
+    checking_wrong field g = wrong_here (i + 1) r _ _ _ (left_row s n i r h e) k.left field g
 
-    pub checking_more : eqb (wrong_field r) 0 ≡ true → r.thickness < 2 ^ 16 → Checking s n (d + r.thickness) (i + 1)
+    pub checking_more : (t : ℕ) → t ≡ r.thickness → wrong_field r ≡ 0 → t < 2 ^ 16 → Checking s n (d + t) (i + 1)
     unfolding depth_of
-    checking_more w b =
+    checking_more t f w b =
         let z : depth_of (rest s n i) ≡ r.thickness + depth_of (rest s n (i + 1)) = ap depth_of (left_row s n i r h e) in
         record {
           few = omega arith;
           small = omega (arith, k.small);
-          left = wrong_below (i + 1) (wrong_field r) r _ _ _ (left_row s n i r h e) refl k.left (omega (arith, eqb-true (wrong_field r) 0 w));
+          left = wrong_below (i + 1) r _ _ _ (left_row s n i r h e) k.left w;
           deep = omega (arith, k.deep);
         }
 
-  pub checking_end : n ≤ i → ◌≡◌ {A = Checked} (record { refusal = nothing; depth = d }) (rows_checked s n)
-  unfolding rows_checked first_wrong rows_from depth_of
+  pub checking_end : n ≤ i → (nothing ≡ first_wrong 1 (rows_from s 1 n)) × (d ≡ depth_of (rows_from s 1 n))
+  unfolding first_wrong rows_from depth_of
   checking_end h =
       let m : n - i ≡ 0 = omega (arith, k.few) in
       let q : nothing ≡ first_wrong 1 (rows_from s 1 n) = rw m at k.left in
       let z : d + 0 ≡ depth_of (rows_from s 1 n) = rw m at k.deep in
-      let e : d ≡ depth_of (rows_from s 1 n) = omega arith in
-      rw (← q, ← e)
+      (q, omega arith)

@@ -1,96 +1,69 @@
 // Checks 2 to 4 of a log, of which 2 stands in record_unused: its rows and their depth.
 #![tactic(auto)]
 
-ghost use Rattle.std.specs.Prelude.{◌≡◌, ◌+◌, ◌*◌, ◌^◌, ◌<◌, ◌≤◌, length};
-ghost use Rattle.rules.specs.Base as base;
+ghost use Rattle.std.specs.Prelude.{◌≡◌, ◌+◌, ◌*◌, ◌^◌, ◌<◌, ◌≤◌, length, IfOk};
 ghost use Rattle.rules.specs.Records.{row_size};
 ghost use Rattle.rules.specs.Limits.{limit_of};
-ghost use Rattle.record_log_checks.specs.Checks.{rows_checked, fields_checked, content_checked};
+ghost use Rattle.rules.specs.Packed.{rows_from, rows_of};
+ghost use Rattle.rules.specs.Ground.{depth_of};
+ghost use Rattle.rules.specs.Checks.{first_wrong};
+ghost use Rattle.rules.specs.Faults.{row_field_number, refusal_of, refusal_in};
+ghost use Rattle.rules.proofs.Groups.{field_checks, content_checks};
 
 use record_row_ranges::{row_field, row_good};
 use record_rows::row_inside;
 use record_unused::unused_wrong;
-use rules::{DEPTH_LIMIT, ROW_SIZE, Refusal};
+use rules::{DEPTH_LIMIT, Fault, ROW_SIZE, RowField};
 
-// What checks of a log found, and how deep its rows go.
-#[derive(Clone, Copy)]
-pub struct Checked {
-    pub refusal: Refusal,
-    pub depth: u64,
-}
-
-// Nothing but a refusal's number, 0 where nothing is refused, and the depth.
-fn found(number: u32, depth: u64) -> Checked
-    ensures { result ≡ record { refusal = base.refuse number; depth = depth } }
-{
-    Checked {
-        refusal: Refusal {
-            number: number,
-            row: 0,
-            field: 0,
-        },
-        depth: depth,
-    }
-}
-
-// Refusal 3 of a row, counted from 0, whose field f is out of range.
-pub fn row_refusal(i: usize, f: u32) -> Refusal
+// Refusal 3 of a row, counted from 0, whose field is out of range.
+pub fn row_refusal(i: usize, field: RowField) -> Fault
     requires { i < 2 ^ 8 }
-    ensures { result ≡ record { number = 3; row = i + 1; field = f } }
+    ensures { refusal_of result ≡ record { number = 3; row = i + 1; field = row_field_number field } }
 {
-    Refusal {
-        number: 3,
-        row: i as u32 + 1,
-        field: f,
-    }
+    let row = i as u32 + 1;
+    Fault::Row { row, field }
 }
 
 // Check 3 of the first n rows, and their thicknesses added up.
-fn check_rows(s: &[u8], n: u8) -> Checked
+fn check_rows(s: &[u8], n: u8) -> Result<u64, Fault>
     requires { 1 + n * row_size ≤ length s.now }
-    ensures { result ≡ rows_checked s.now n }
+    ensures refusal { refusal_in result ≡ first_wrong 1 (rows_from s.now 1 n) }
+    ensures depth { IfOk result (λ depth. depth ≡ depth_of (rows_from s.now 1 n)) }
 {
     let mut depth: u64 = 0;
-    let mut i: usize = 0;
-    let end = n as usize;
-    while i < end {
+    for i in 0..usize::from(n) {
         let row = row_inside(s, 1 + i * ROW_SIZE);
         if !row_good(row) {
-            let r = row_refusal(i, row_field(row));
-            return Checked {
-                refusal: r,
-                depth: 0,
-            };
+            return Err(row_refusal(i, row_field(row).unwrap()));
         }
-        depth += row.thickness as u64;
-        i += 1;
+        depth += u64::from(row.thickness);
     }
-    found(0, depth)
+    Ok(depth)
 }
 
 // Checks 2 and 3.
-fn check_fields(s: &[u8]) -> Checked
+#[tactic(auto, using(rules::proofs::FormLaws::limit_long, record_unused::proofs::CountLaws::inside), unfolding(rules::proofs::Groups::field_checks, rules::specs::Base::first, rules::specs::Base::when, rules::specs::Packed::rows_of))]
+fn check_fields(s: &[u8]) -> Result<u64, Fault>
     requires { 0 < limit_of s.now }
-    ensures { result ≡ fields_checked s.now }
+    ensures refusal { refusal_in result ≡ field_checks s.now }
+    ensures depth { IfOk result (λ depth. depth ≡ depth_of (rows_of s.now)) }
 {
     if unused_wrong(s) {
-        return found(2, 0);
+        return Err(Fault::Unused);
     }
     check_rows(s, s[0])
 }
 
-// Checks 2 to 4. Makes no Log: the rows are read from the bytes again where they are needed.
-pub fn check_content(s: &[u8]) -> Checked
+// Checks 2 to 4; the depth of the rows. Makes no Log: the rows are read from the bytes again where they are needed.
+#[tactic(auto, unfolding(rules::proofs::Groups::content_checks, rules::specs::Base::first, rules::specs::Base::when))]
+pub fn check_content(s: &[u8]) -> Result<u64, Fault>
     requires { 0 < limit_of s.now }
-    ensures { result ≡ content_checked s.now }
+    ensures refusal { refusal_in result ≡ content_checks s.now }
+    ensures depth { IfOk result (λ depth. depth ≡ depth_of (rows_of s.now)) }
 {
-    let c = check_fields(s);
-    let r = c.refusal;
-    if 0 < r.number {
-        return c;
+    let depth = check_fields(s)?;
+    if DEPTH_LIMIT < depth {
+        return Err(Fault::TooDeep);
     }
-    if DEPTH_LIMIT < c.depth {
-        return found(4, 0);
-    }
-    c
+    Ok(depth)
 }

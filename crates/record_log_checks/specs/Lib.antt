@@ -1,2 +1,0 @@
--- What checking a log comes to, with the depth of its rows.
-pub mod Checks
