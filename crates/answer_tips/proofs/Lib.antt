@@ -1,2 +1,2 @@
--- Laws of the work on a tip, which the proofs of the functions cite.
-pub mod WorkLaws
+-- Laws of a tip in sand, which the proofs of the functions cite.
+pub mod SandLaws

@@ -1,2 +1,2 @@
--- What the work on a tip needs and gives.
+-- What the work on a tip gives.
 pub mod Tips

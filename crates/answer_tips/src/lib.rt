@@ -1,84 +1,46 @@
 // The tip of a pile in the soil below it: checks 9 to 12 and 17, and R where none refuses.
 #![tactic(auto)]
 
-ghost use Rattle.std.specs.Prelude.{◌≡◌, true, false};
+ghost use Rattle.std.specs.Prelude.{◌≡◌, ◌≤◌, true, false};
+ghost use Rattle.rules.specs.Base.{refuses};
+ghost use Rattle.rules.specs.Limits.{tip_limit};
 ghost use Rattle.rules.specs.Numbers.{sand};
-ghost use Rattle.answer_tips.specs.Tips.{TipReady, TipWorked};
+ghost use Rattle.rules.proofs.Groups.{pile_checks};
+ghost use Rattle.answer_tips.specs.Tips.{TipWorked};
 
-use answer_checks::{clay_refusal, sand_refusal};
+use answer_checks::{Tip, clay_refusal, sand_refusal};
 use norm_grades::{below_cut, depth_read};
 use norm_sand_tips::sand_resistance;
-use norm_tip_reads::pascals;
 use norm_tips::tip_resistance;
-use rules::{Pile, SandNumbers, Soil};
-
-// The number of the first that refuses and no R, or 0 and R in whole Pa.
-#[derive(Clone, Copy)]
-pub struct TipWork {
-    pub refusal: u32,
-    pub resistance: u64,
-}
-
-fn refused_tip(refusal: u32) -> TipWork
-    ensures { result ≡ record { refusal = refusal; resistance = 0 } }
-{
-    TipWork {
-        refusal: refusal,
-        resistance: 0,
-    }
-}
+use rules::{Fault, SandNumbers};
 
 // In sand, with the extra record: by the formula.
-fn given_tip(pile: Pile, brought: SandNumbers, soil: Soil, top: u64) -> TipWork
-    requires { TipReady pile top × (sand soil ≡ true) }
-    ensures { TipWorked soil top pile (Some brought) result }
+#[tactic(auto, using(rules::proofs::Groups::late_in_sand_lem, crate::proofs::SandLaws::bounded), unfolding(rules::specs::Numbers::resistance))]
+fn sand_tip(tip: Tip, brought: SandNumbers) -> Result<u64, Fault>
+    requires good { refuses (pile_checks tip.pile) ≡ false }
+    requires near { tip.pile.tip ≤ tip_limit }
+    requires sand { sand tip.soil ≡ true }
+    ensures { TipWorked tip.soil tip.top tip.pile (Some brought) result }
 {
-    let refusal = sand_refusal(pile, brought, top);
-    if refusal != 0 {
-        return refused_tip(refusal);
-    }
+    let pile = tip.pile;
+    sand_refusal(tip, brought)?;
     let h = below_cut(pile.grade, pile.tip);
     let depth = depth_read(pile.grade, pile.tip);
-    TipWork {
-        refusal: 0,
-        resistance: sand_resistance(brought, h, pile.a as u64, soil.kind, depth),
-    }
+    Ok(sand_resistance(brought, h, u64::from(pile.a), tip.soil.kind, depth))
 }
 
-// In sand: refused without the extra record.
-fn sand_tip(pile: Pile, extra: Option<SandNumbers>, soil: Soil, top: u64) -> TipWork
-    requires { TipReady pile top × (sand soil ≡ true) }
-    ensures { TipWorked soil top pile extra result }
+// By the soil just below the tip: R in whole Pa, of sand by the formula and of clay by the tip table, or the first that refuses. Over clay the
+// extra record is not looked at.
+#[tactic(auto, using(rules::proofs::Groups::late_in_sand_lem, rules::proofs::Groups::late_in_clay_lem), unfolding(rules::specs::Numbers::resistance, rules::proofs::Groups::late_in_sand, rules::specs::Base::first, rules::specs::Base::when))]
+pub fn work_tip(tip: Tip, extra: Option<SandNumbers>) -> Result<u64, Fault>
+    requires good { refuses (pile_checks tip.pile) ≡ false }
+    requires near { tip.pile.tip ≤ tip_limit }
+    ensures { TipWorked tip.soil tip.top tip.pile extra result }
 {
-    match extra {
-        None => refused_tip(9),
-        Some(brought) => given_tip(pile, brought, soil, top),
+    let pile = tip.pile;
+    if tip.soil.kind <= 3 {
+        return sand_tip(tip, extra.ok_or(Fault::SandUnread)?);
     }
-}
-
-// In clay: by the tip table.
-fn clay_tip(pile: Pile, extra: Option<SandNumbers>, soil: Soil, top: u64) -> TipWork
-    requires { TipReady pile top × (sand soil ≡ false) }
-    ensures { TipWorked soil top pile extra result }
-{
-    let read = tip_resistance(depth_read(pile.grade, pile.tip), soil.index);
-    let refusal = clay_refusal(pile, soil, top, read);
-    if refusal != 0 {
-        return refused_tip(refusal);
-    }
-    TipWork {
-        refusal: 0,
-        resistance: pascals(read),
-    }
-}
-
-// By the soil just below the tip and the top of its stratum; over clay the extra record is not looked at.
-pub fn work_tip(pile: Pile, extra: Option<SandNumbers>, soil: Soil, top: u64) -> TipWork
-    requires { TipReady pile top }
-    ensures { TipWorked soil top pile extra result }
-{
-    if soil.kind <= 3 {
-        return sand_tip(pile, extra, soil, top);
-    }
-    clay_tip(pile, extra, soil, top)
+    let read = tip_resistance(depth_read(pile.grade, pile.tip), tip.soil.index);
+    clay_refusal(tip, read)
 }
