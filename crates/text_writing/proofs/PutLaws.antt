@@ -1,12 +1,13 @@
--- Laws of text put into a buffer: two puts are one, a byte is put first or last, and a text made of pieces has one piece more.
+-- Laws of text put into a buffer: two puts are one, and a text made of pieces has one piece more.
 use mathlib.Core.Path.{◌≡◌, refl, sym, ◌∙◌, ap}
 use mathlib.Core.List.{List, [], ◌∷◌, ◌++◌, append_assoc, append-nil}
 use Prim.Native.Nat.{ℕ, zero, suc, ◌+◌, ◌<◌}
 use native.Mathlib.Nat.{add-zero}
 use native.Mathlib.Omega.{arith}
 use lib.ListN.{length, get_or, take, set, length-append}
-use lib.Seq.{sets, set_comm}
-use Rattle.text_writing.specs.Text.{Put}
+use lib.Seq.{sets}
+use Rattle.text_writing.specs.declared.Writer.{Writer}
+use Rattle.text_writing.specs.Text.{Put, Puts}
 
 -- two texts put one after the other are one text put
 put_put : (buf : List ℕ) (at : ℕ) (s t : List ℕ) → sets (sets buf at s) (at + length s) t ≡ sets buf at (s ++ t)
@@ -19,18 +20,12 @@ pub put_then : {buf : List ℕ} {at : ℕ} {s t mid after : List ℕ} {place nex
 put_then {buf} {at} {s} {t} p q =
     record { bytes = q.bytes ∙ (rw (p.bytes, p.place) (put_put buf at s t)); place = omega (arith, p.place, q.place, length-append s t) }
 
--- a single byte
-pub put_one : (buf : List ℕ) (at b : ℕ) → Put buf at (b ∷ []) (set buf at b) (at + 1)
-put_one buf at b = record { bytes = refl; place = refl }
+-- the same of a writer, where one puts after the other, and where none has put yet
+pub puts_then : {a b c : Writer} {s t : List ℕ} → Puts a s b → Puts b t c → Puts a (s ++ t) c
+puts_then p q = record { same_buffer = q.same_buffer ∙ p.same_buffer; long = q.long ∙ p.long; put = put_then p.put q.put }
 
--- the last byte may be stored first
-pub put_last : (buf : List ℕ) (at : ℕ) (text : List ℕ) (b : ℕ) → sets (set buf (at + length text) b) at text ≡ sets buf at (text ++ (b ∷ []))
-put_last buf at [] b = ap (λ (p : ℕ). set buf p b) (add-zero at)
-put_last buf at (a ∷ text) b =
-    let e : at + suc (length text) ≡ suc at + length text = omega arith in
-    ap (λ (m : List ℕ). sets m (suc at) text)
-    (set_comm buf (at + suc (length text)) at b a (λ h. omega arith) ∙ ap (λ (p : ℕ). set (set buf at a) p b) e)
-    ∙ put_last (set buf at a) (suc at) text b
+pub puts_none : (w : Writer) → Puts w [] w
+puts_none w = record { same_buffer = refl; long = refl; put = record { bytes = refl; place = sym (add-zero w.at) } }
 
 -- a text `of` a list whose elements have a `piece` each: that of one element more
 module _ {A : Type 0} (of : List A → List ℕ) (piece : A → List ℕ) (none : of [] ≡ []) (cons : (x : A) (xs : List A) → of (x ∷ xs) ≡ piece x ++ of xs) where

@@ -1,10 +1,5 @@
--- The digits of a number: a fixed count of them, and the number read back.
-use Rattle.std.specs.Prelude.{List, [], ◌∷◌, ◌++◌, ℕ, zero, suc, ◌+◌, ◌*◌, ◌-◌, ◌/◌, ◌%◌}
-
--- the last n digits of x, leading zeros among them
-unfoldable pub last_digits : ℕ → ℕ → List ℕ
-last_digits zero x = []
-last_digits (suc n) x = last_digits n (x / 10) ++ ((48 + x % 10) ∷ [])
+-- A number read back from its digits.
+use Rattle.std.specs.Prelude.{List, [], ◌∷◌, ℕ, ◌+◌, ◌*◌, ◌-◌}
 
 -- a number read from its digits, the first of them first; v is what was read before them
 unfoldable pub read_from : ℕ → List ℕ → ℕ

@@ -1,72 +1,48 @@
-// Bytes and decimal numbers, put into a lent buffer one after another.
+// Text put into a lent buffer, one piece behind another.
 #![tactic(auto)]
 
-ghost use Rattle.std.specs.Prelude.{◌≡◌, ◌+◌, ◌*◌, ◌≤◌, length};
-ghost use Rattle.std.proofs.lemmas.List.Edits.{sets};
+ghost use Rattle.std.specs.Prelude.{◌+◌, ◌*◌, ◌≤◌, length};
 ghost use Rattle.rules.specs.Sheet.{decimal, spaced};
-ghost use Rattle.text_writing.specs.Text.{Put};
-ghost use Rattle.text_writing.specs.Digits.{last_digits};
+ghost use Rattle.text_writing.specs.Text.{Puts};
 
 use base_copies::copy_in;
 
-// The bytes of a text, one after another.
-pub fn put_bytes(buf: &mut [u8], at: usize, text: &[u8]) -> usize
-    requires { at + length text.now ≤ length buf.old }
-    ensures { Put buf.old at text.now buf.new result }
-{
-    copy_in(buf, at, text);
-    at + text.len()
+// A lent buffer, and the place in it at which the next text begins.
+#[derive(Drop)]
+pub struct Writer<'a> {
+    pub buf: &'a mut [u8],
+    pub at: usize,
 }
 
-// How many digits x has.
-fn digit_count(x: u64) -> usize
-    ensures { (result ≡ length (decimal x)) × (result ≤ 20) }
-{
-    let mut n: usize = 1;
-    let mut left = x;
-    while 10 <= left {
-        left = left / 10;
-        n += 1;
+impl<'a> Writer<'a> {
+    // The bytes of a text.
+    pub fn put_bytes(&mut self, text: &[u8])
+        requires { self.old.at + length text.now ≤ length self.old.buf.now }
+        ensures { Puts self.old text.now self.new }
+    {
+        copy_in(self.buf, self.at, text);
+        self.at += text.len();
     }
-    n
-}
 
-// The last n digits of x, filled in from the last to the first.
-fn put_digits(buf: &mut [u8], at: usize, n: usize, x: u64)
-    requires { at + n ≤ length buf.old }
-    ensures { buf.new ≡ sets buf.old at (last_digits n x) }
-{
-    let mut done = 0;
-    let mut left = x;
-    while done < n {
-        let place = at + (n - 1 - done);
-        buf[place] = 48 + (left % 10) as u8;
-        left = left / 10;
-        done += 1;
+    // A number's digits, with no leading zero.
+    fn put_decimal(&mut self, x: u64)
+        requires { self.old.at + 20 ≤ length self.old.buf.now }
+        ensures put { Puts self.old (decimal x) self.new }
+        ensures short { self.new.at ≤ self.old.at + 20 }
+    {
+        let mut digits = itoa::Buffer::new();
+        self.put_bytes(digits.format(x).as_bytes());
     }
-}
 
-// A number's digits, with no leading zero.
-fn put_decimal(buf: &mut [u8], at: usize, x: u64) -> usize
-    requires { at + 20 ≤ length buf.old }
-    ensures { Put buf.old at (decimal x) buf.new result × (result ≤ at + 20) }
-{
-    let n = digit_count(x);
-    put_digits(buf, at, n, x);
-    at + n
-}
-
-// Each number behind a single space.
-pub fn put_numbers(buf: &mut [u8], at: usize, xs: &[u64]) -> usize
-    requires { at + 21 * length xs.now ≤ length buf.old }
-    ensures { Put buf.old at (spaced xs.now) buf.new result × (result ≤ at + 21 * length xs.now) }
-{
-    let mut i = 0;
-    let mut next = at;
-    while i < xs.len() {
-        buf[next] = 32;
-        next = put_decimal(buf, next + 1, xs[i]);
-        i += 1;
+    // Each number behind a single space.
+    pub fn put_numbers(&mut self, xs: &[u64])
+        requires { self.old.at + 21 * length xs.now ≤ length self.old.buf.now }
+        ensures put { Puts self.old (spaced xs.now) self.new }
+        ensures short { self.new.at ≤ self.old.at + 21 * length xs.now }
+    {
+        for x in xs {
+            self.put_bytes(b" ");
+            self.put_decimal(*x);
+        }
     }
-    next
 }
