@@ -1,23 +1,20 @@
--- How a line is put, how long each of the three can be, and what a buffer holds after one.
+-- How long a line can be, and what a buffer holds after one.
 use mathlib.Core.Path.{◌≡◌, refl, sym, ◌∙◌, ap}
 use mathlib.Core.List.{List, [], ◌∷◌, ◌++◌}
 use Prim.Native.Nat.{ℕ, zero, suc, ◌+◌, ◌-◌, ◌≤◌}
 use native.Mathlib.Omega.{arith}
-use lib.ListN.{length, drop, set, replicate, length-append, length-replicate}
+use lib.ListN.{length, drop, replicate, length-append, length-replicate}
 use lib.Seq.{sets-eq, take_at, drop_at, drop-drop}
-use Rattle.rules.specs.Widths.{Fits}
 use Rattle.rules.specs.Sheet.{spaced, text_line}
-use Rattle.text_writing.specs.Text.{Put}
+use Rattle.text_writing.specs.declared.Writer.{Writer}
+use Rattle.text_writing.specs.Text.{Put, Puts}
 use Rattle.text_lines.specs.Lines.{Holds}
-use Rattle.text_writing.proofs.PutLaws.{put_then, put_one}
-use Rattle.text_writing.proofs.SpacedLaws.{room_for, spaced_fits}
+use Rattle.text_writing.proofs.SpacedLaws.{HaveDigits, room_for, spaced_fits}
 
-pub text_put : {buf : List ℕ} {at : ℕ} {word mid after : List ℕ} {place next : ℕ} (xs : List ℕ) → Put buf at word mid place → Put mid place (spaced xs) after next → Put buf at (text_line word xs) (set after next 10) (next + 1)
-text_put {after = after} {next = next} xs p q = put_then (put_then p q) (put_one after next 10)
-
--- the place moves by no more than numbers of these widths take, beside the word and the newline
-pub line_short : {buf : List ℕ} {at : ℕ} {after : List ℕ} {next : ℕ} (word ws xs : List ℕ) → Fits ws xs → Put buf at (text_line word xs) after next → next ≤ at + (length word + room_for ws + 1)
-line_short word ws xs h p = omega (arith, p.place, length-append (word ++ spaced xs) (10 ∷ []), length-append word (spaced xs), spaced_fits ws xs h)
+-- the place moves by no more than numbers of so many digits take, beside the word and the newline
+pub line_short : {old new : Writer} (word ks xs : List ℕ) → HaveDigits ks xs → Puts old (text_line word xs) new → new.at ≤ old.at + (length word + room_for ks + 1)
+line_short word ks xs h p =
+    omega (arith, p.put.place, length-append (word ++ spaced xs) (10 ∷ []), length-append word (spaced xs), spaced_fits ks xs h)
 
 -- a text put behind what a buffer holds
 drop_zeros : (n m : ℕ) → drop {A = ℕ} n (replicate m 0) ≡ replicate (m - n) 0
