@@ -1,67 +1,48 @@
--- Laws of kept: what is left to compare of a slice, and what is left to count.
-use mathlib.Core.Path.{◌≡◌, ◌∙◌}
-use mathlib.Core.List.{List}
+-- The law of kept: so many slices are the same, and the next of those that are used differs.
+use mathlib.Core.Path.{◌≡◌, refl, ap, sym, ◌∙◌}
 use mathlib.Core.Bool.{Bool, true, false}
-use Prim.Native.Nat.{ℕ, suc, ◌+◌, ◌*◌, ◌-◌, ◌<◌, ◌≤◌}
-use native.Mathlib.Nat.{zero-add}
+use mathlib.Core.List.{List, [], ◌∷◌}
+use mathlib.Core.Logic.{◌⊎◌, inl, inr, ⊎_elim}
+use Prim.Native.Nat.{ℕ, zero, suc, ◌+◌, ◌*◌, ◌<◌, ◌≤◌}
 use native.Mathlib.Omega.{arith}
-use lib.ListN.{get_or, take, drop, length}
-use lib.Seq.{drop-cons, drop-drop}
+use lib.ListN.{take, drop}
+use lib.Seq.{drop-drop}
 use lib.Dec.{eqb}
-use borrow.Author.Tests.{eq-eqb, ne_eqb}
-use Rattle.rules.specs.Base.{pick, both}
+use borrow.Author.Tests.{eq-eqb, eqb-true}
 use Rattle.rules.specs.Records.{slice_size}
 use Rattle.rules.specs.EditReplies.{same_bytes, kept}
 
--- what is left of slice k of both tables, from its byte j on, is the same
-abbrev pub rest_same : List ℕ → List ℕ → ℕ → ℕ → Bool
-rest_same new lent k j = same_bytes (take (slice_size - j) (drop (k * slice_size + j) new)) (take (slice_size - j) (drop (k * slice_size + j) lent))
+-- slice k of a table
+abbrev pub slice_of : List ℕ → ℕ → List ℕ
+slice_of s k = take slice_size (drop (k * slice_size) s)
 
--- kept from slice k on
-abbrev pub kept_from : ℕ → List ℕ → List ℕ → ℕ → ℕ
-kept_from n new lent k = kept (n - k) (drop (k * slice_size) new) (drop (k * slice_size) lent)
+next : (s : List ℕ) (k : ℕ) → slice_of (drop slice_size s) k ≡ slice_of s (suc k)
+next s k =
+    let e : slice_size + k * slice_size ≡ suc k * slice_size = omega arith in
+    rw (drop-drop (k * slice_size) slice_size s, e)
 
-module _ (n : ℕ) (new lent : List ℕ) where
-  pub kept_begins : 0 + kept_from n new lent 0 ≡ kept n new lent
-  kept_begins = let e : n - 0 ≡ n = omega arith in rw (e, zero-add)
+same_self : (s : List ℕ) → same_bytes s s ≡ true
+unfolding same_bytes
+same_self [] = refl
+same_self (b ∷ s) = rw (eq-eqb b b refl, same_self s)
 
-  module _ (k : ℕ) (so_far : k + kept_from n new lent k ≡ kept n new lent) where
-    pub kept_ends : n ≤ k → k ≡ kept n new lent
-    unfolding kept
-    kept_ends h =
-        let e : n - k ≡ 0 = omega arith in
-        let z : kept_from n new lent k ≡ 0 = rw e in
-        omega arith
+known : (t : Bool) → (t ≡ true) ⊎ (t ≡ false)
+known true = inl refl
+known false = inr refl
 
-    module _ (h : k < n) (j : ℕ) (same : rest_same new lent k 0 ≡ rest_same new lent k j) where
-      step : kept_from n new lent k ≡ pick (rest_same new lent k 0) (suc (kept_from n new lent (k + 1))) 0
-      unfolding kept
-      step =
-          let e : n - k ≡ suc (n - (k + 1)) = omega arith in
-          let f : (k + 1) * slice_size ≡ k * slice_size + slice_size = omega arith in
-          let g : k * slice_size + 0 ≡ k * slice_size = omega arith in
-          rw (e, f, g, drop-drop slice_size (k * slice_size) new, drop-drop slice_size (k * slice_size) lent)
+same_never : (s t : List ℕ) → (s ≡ t → ⊥) → same_bytes s t ≡ false
+unfolding same_bytes
+same_never [] [] h = absurd (h refl)
+same_never [] (b ∷ t) h = refl
+same_never (b ∷ s) [] h = refl
+same_never (b ∷ s) (a ∷ t) h = ⊎_elim (λ (e : eqb b a ≡ true). rw (e, same_never s t (λ f. h (cc (eqb-true b a e, f))))) (λ (e : eqb b a ≡ false). rw e) (known (eqb b a))
 
-      pub slice_same : j ≡ slice_size → k + 1 + kept_from n new lent (k + 1) ≡ kept n new lent
-      unfolding same_bytes
-      slice_same e =
-          let r : rest_same new lent k 0 ≡ true = same ∙ rw e in
-          let l : kept_from n new lent k ≡ suc (kept_from n new lent (k + 1)) = step ∙ rw r in
-          omega arith
-
-      module _ (g : j < slice_size) (in-new : n * slice_size ≤ length new) (in_lent : n * slice_size ≤ length lent) where
-        byte : rest_same new lent k 0 ≡ both (eqb (get_or new (k * slice_size + j) 0) (get_or lent (k * slice_size + j) 0)) (rest_same new lent k (j + 1))
-        unfolding same_bytes
-        byte =
-            let e : slice_size - j ≡ suc (slice_size - (j + 1)) = omega arith in
-            let f : k * slice_size + (j + 1) ≡ suc (k * slice_size + j) = omega arith in
-            same ∙ rw (e, f, drop-cons new (k * slice_size + j) 0 (omega arith), drop-cons lent (k * slice_size + j) 0 (omega arith))
-
-        pub byte_same : get_or new (k * slice_size + j) 0 ≡ get_or lent (k * slice_size + j) 0 → rest_same new lent k 0 ≡ rest_same new lent k (j + 1)
-        byte_same e = byte ∙ rw (eq-eqb _ _ e)
-
-        pub byte_differs : (get_or new (k * slice_size + j) 0 ≡ get_or lent (k * slice_size + j) 0 → ⊥) → k ≡ kept n new lent
-        byte_differs e =
-            let r : rest_same new lent k 0 ≡ false = byte ∙ rw (ne_eqb _ _ e) in
-            let l : kept_from n new lent k ≡ 0 = step ∙ rw r in
-            omega arith
+pub kept_is : (n : ℕ) (new lent : List ℕ) (m : ℕ) → m ≤ n → ((k : ℕ) → k < m → slice_of new k ≡ slice_of lent k) → (m < n → slice_of new m ≡ slice_of lent m → ⊥) → m ≡ kept n new lent
+unfolding kept
+kept_is zero new lent m h s d = omega arith
+kept_is (suc n) new lent zero h s d = rw (same_never (take slice_size new) (take slice_size lent) (d (omega arith)))
+kept_is (suc n) new lent (suc m) h s d =
+    let e : take slice_size new ≡ take slice_size lent = s 0 (omega arith) in
+    let on : m ≡ kept n (drop slice_size new) (drop slice_size lent) =
+    kept_is n (drop slice_size new) (drop slice_size lent) m (omega arith) (λ k g. next new k ∙ s (suc k) (omega arith) ∙ sym (next lent k)) (λ g f. d (omega arith) (sym (next new m) ∙ f ∙ next lent m)) in
+    rw (e, same_self (take slice_size lent)) (ap suc on)

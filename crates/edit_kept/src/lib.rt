@@ -14,8 +14,8 @@ pub fn table_copy(table: &[u8]) -> [u8; TABLE_SIZE]
     requires { length table.now ≡ table_size row_limit }
     ensures { result ≡ table.now }
 {
-    let mut copy = [0u8; TABLE_SIZE];
-    base_copies::copy_in(&mut copy, 0, table);
+    let mut copy = [0; TABLE_SIZE];
+    copy.copy_from_slice(table);
     copy
 }
 
@@ -24,16 +24,9 @@ pub fn kept_count(new: &[u8], old: &[u8], used: usize) -> usize
     requires { (used * slice_size ≤ length new.now) × (used * slice_size ≤ length old.now) }
     ensures { (result ≡ kept used new.now old.now) × (result ≤ used) }
 {
-    let mut slice: usize = 0;
-    'slices: while slice < used {
-        let mut j: usize = 0;
-        while j < SLICE_SIZE {
-            if new[slice * SLICE_SIZE + j] != old[slice * SLICE_SIZE + j] {
-                break 'slices;
-            }
-            j += 1;
-        }
-        slice += 1;
-    }
-    slice
+    new.chunks_exact(SLICE_SIZE)
+        .zip(old.chunks_exact(SLICE_SIZE))
+        .take(used)
+        .take_while(|(slice, lent)| slice == lent)
+        .count()
 }

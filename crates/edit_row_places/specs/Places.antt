@@ -6,14 +6,6 @@ use Rattle.rules.specs.Records.{row_size}
 abbrev pub front : List ℕ → List ℕ
 front t = take (length t - row_size) t
 
--- "opens the place": every place moves down by one, the last going; the first still holds what it held
-abbrev pub opened : List ℕ → List ℕ
-opened t = take row_size t ++ front t
-
--- every place moves up by one, the first going; the last still holds what it held
-abbrev pub raised : List ℕ → List ℕ
-raised t = drop row_size t ++ drop (length t - row_size) t
-
 -- "closes .. the place": every place moves up by one, the first going, and the last is zero
 abbrev pub closed : List ℕ → List ℕ
 closed t = drop row_size t ++ replicate row_size 0
