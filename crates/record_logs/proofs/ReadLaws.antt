@@ -4,28 +4,27 @@ use mathlib.Core.Bool.{true, false}
 use mathlib.Core.List.{List, [], ◌∷◌, ◌++◌, append_assoc}
 use Prim.Native.Nat.{ℕ, zero, suc, ◌+◌, ◌*◌, ◌-◌, ◌<◌, ◌≤◌}
 use native.Mathlib.Omega.{arith}
-use borrow.Author.Tests.{eqb-true, eq-eqb, ne_eqb}
+use borrow.Author.Tests.{eqb-true}
 use lib.Dec.{eqb}
 use lib.ListN.{length, get_or, drop, set, replicate}
 use lib.Seq.{get_or-drop, set_at}
 use Rattle.rules.specs.declared.Row.{Row}
 use Rattle.rules.specs.declared.Log.{Log}
-use Rattle.rules.specs.declared.LogRead.{LogRead}
+use Rattle.rules.specs.declared.faults.RowField.{RowField}
+use Rattle.rules.specs.Faults.{row_field_number}
 use Rattle.rules.specs.declared.Refusal.{Refusal}
-use Rattle.rules.specs.Base.{nothing, refuse, first, when, all_zero}
+use Rattle.rules.specs.Base.{nothing, all_zero}
 use Rattle.rules.specs.Widths.{bytes, fields_of}
 use Rattle.rules.specs.Records.{row_widths, row_from, row_size}
-use Rattle.rules.specs.Limits.{row_limit, forms, log_size, form_by, limit_of}
+use Rattle.rules.specs.Limits.{row_limit, limit_of}
 use Rattle.rules.specs.Packed.{number_at, count_of, row_at, rows_from, rows_of, log_of, no_row}
 use Rattle.rules.specs.Checks.{unused_wrong, wrong_field, first_wrong}
-use Rattle.rules.specs.Reading.{no_log, read_log}
 use Rattle.rules.proofs.Basics.{both_left, both_right, rows_length}
 use Rattle.rules.proofs.FormLaws.{limit_most}
 use Rattle.rules.proofs.PlacesLaws.{rows_part}
 use Rattle.rules.proofs.WidthLaws.{join_same}
 use Rattle.record_unused.proofs.CountLaws.{counted, inside}
 use Rattle.record_log_checks.proofs.RowsLaws.{wrong_here, wrong_below, rest, left_row}
-use Rattle.record_logs.specs.Rows.{rows_read}
 
 -- zero bytes
 pub all_zero_lem : (s : List ℕ) → all_zero s ≡ true → (k : ℕ) → get_or s k 0 ≡ 0
@@ -65,24 +64,6 @@ padded s h b =
     ap (rows_from s 1) k ∙ rows_more s 1 n (row_limit - n)
     ∙ ap (λ (t : List Row). rows_from s 1 n ++ t) (sym (rw z at (rows_part s at 0 (row_limit - n))) ∙ rows_blank (drop at s) (all_zero_lem (drop at s) b) 0 (row_limit - n))
 
--- a refused log
-abbrev pub no : Refusal → LogRead
-no r = record { refusal = r; log = no_log }
-
--- checks 1 and 2 of a log that is read
-pub read_formless : (s : List ℕ) (limit : ℕ) → limit ≡ form_by log_size forms (length s) → limit ≡ 0 → no (refuse 1) ≡ read_log s
-unfolding read_log first when limit_of
-read_formless s limit e h = rw (← e, eq-eqb _ _ h)
-
-module _ (s : List ℕ) (f : 0 < limit_of s) where
-  pub read_unused : unused_wrong s ≡ true → no (refuse 2) ≡ read_log s
-  unfolding read_log first when
-  read_unused w = rw (ne_eqb (limit_of s) 0 (λ z. omega arith), w)
-
-  pub read_rows : unused_wrong s ≡ false → rows_read s ≡ read_log s
-  unfolding read_log rows_read first when
-  read_rows w = rw (ne_eqb (limit_of s) 0 (λ z. omega arith), w)
-
 -- i of the used rows are right and read, zero places stand behind them, and the others have the same first refusal
 pub record Reading (s : List ℕ) (l : Log) (i : ℕ) : Type 0 where
   pub few : i ≤ count_of s
@@ -101,12 +82,11 @@ reading_start s l h w e f =
     record { few = omega arith; most = omega (arith, k.1, limit_most s); room = inside s h w; blank = k.2; count = e; rows = f; left = rw m }
 
 module _ (s : List ℕ) (l : Log) (i : ℕ) (k : Reading s l i) where
-  module _ (r : Row) (f : ℕ) (h : i < count_of s) (e : r ≡ row_at s (1 + i * row_size)) (g : f ≡ wrong_field r) where
-    pub reading_wrong : 0 < f → no (record { number = 3; row = i + 1; field = f }) ≡ rows_read s
-    unfolding rows_read
-    reading_wrong w = rw (← (wrong_here (i + 1) f r _ _ _ (left_row s (count_of s) i r h e) g k.left w))
+  module _ (r : Row) (h : i < count_of s) (e : r ≡ row_at s (1 + i * row_size)) where
+    pub reading_wrong : (field : RowField) → row_field_number field ≡ wrong_field r → ◌≡◌ {A = Refusal} (record { number = 3; row = i + 1; field = row_field_number field }) (first_wrong 1 (rows_of s))
+    reading_wrong field g = wrong_here (i + 1) r _ _ _ (left_row s (count_of s) i r h e) k.left field g
 
-    pub reading_more : f ≤ 0 → Reading s (record { count = l.count; rows = set l.rows i r }) (i + 1)
+    pub reading_more : 0 ≡ wrong_field r → Reading s (record { count = l.count; rows = set l.rows i r }) (i + 1)
     unfolding rows_from
     reading_more w =
         let m : row_limit - i ≡ suc (row_limit - (i + 1)) = omega (arith, k.most) in
@@ -117,14 +97,13 @@ module _ (s : List ℕ) (l : Log) (i : ℕ) (k : Reading s l i) where
           blank = k.blank;
           count = k.count;
           rows = rw (k.rows, m, set_at (rows_from s 1 i) no_row (replicate (row_limit - (i + 1)) no_row) r i (rows_length s 1 i), rows_more s 1 i 1, append_assoc, e);
-          left = wrong_below (i + 1) f r _ _ _ (left_row s (count_of s) i r h e) g k.left w;
+          left = wrong_below (i + 1) r _ _ _ (left_row s (count_of s) i r h e) k.left (sym w);
         }
 
-  pub reading_end : count_of s ≤ i → ◌≡◌ {A = LogRead} (record { refusal = nothing; log = l }) (rows_read s)
-  unfolding rows_read log_of rows_of first_wrong rows_from
+  pub reading_end : count_of s ≤ i → (nothing ≡ first_wrong 1 (rows_of s)) × (l ≡ log_of s)
+  unfolding log_of rows_of first_wrong rows_from
   reading_end h =
       let e : i ≡ count_of s = omega (arith, k.few) in
       let m : count_of s - i ≡ 0 = omega arith in
-      let z : nothing ≡ first_wrong 1 (rows_from s 1 (count_of s)) = rw m at k.left in
       let q : l.rows ≡ rows_from s 1 row_limit = rw (k.rows, e) (sym (padded s k.most k.blank)) in
-      rw (← z, ← k.count, ← q)
+      (rw m at k.left, rw (← k.count, ← q))

@@ -1,70 +1,76 @@
 // A log read by itself: checks 1 to 3, and all its places.
 #![tactic(auto)]
 
-ghost use Rattle.std.specs.Prelude.{◌≡◌, false, ◌<◌};
+ghost use Rattle.std.specs.Prelude.{◌≡◌, false, ◌<◌, IfOk};
 ghost use Rattle.rules.specs.Limits.{limit_of};
-ghost use Rattle.rules.specs.Checks.{unused_wrong};
+ghost use Rattle.rules.specs.Packed.{rows_of, log_of};
+ghost use Rattle.rules.specs.Checks.{unused_wrong, first_wrong};
+ghost use Rattle.rules.specs.Faults.{refusal_in};
 ghost use Rattle.rules.specs.Reading.{no_log, read_log};
-ghost use Rattle.record_logs.specs.Rows.{rows_read};
 
-use base_replies::refuse;
 use record_lengths::row_limit;
 use record_log_checks::row_refusal;
 use record_row_ranges::row_field;
-use record_rows::{no_row, row_inside};
+use record_rows::row_inside;
 use record_unused::unused_wrong;
-use rules::{Log, LogRead, ROW_LIMIT, ROW_SIZE, Refusal};
+use rules::{Fault, Log, LogRead, ROW_LIMIT, ROW_SIZE, Refusal, Row};
 
-fn no_log(r: Refusal) -> LogRead
-    ensures { result ≡ record { refusal = r; log = no_log } }
+fn no_log() -> Log
+    ensures { result ≡ no_log }
 {
-    let none = Log {
+    Log {
         count: 0,
-        rows: [no_row(); ROW_LIMIT],
-    };
-    LogRead {
-        refusal: r,
-        log: none,
+        rows: [Row::default(); ROW_LIMIT],
     }
 }
 
 // A log past checks 1 and 2: check 3 of each row as it is read; the places behind the rows are zero.
-fn read_rows(s: &[u8]) -> LogRead
+#[tactic(auto, using(rules::proofs::FormLaws::limit_long))]
+fn read_rows(s: &[u8]) -> Result<Log, Fault>
     requires { (0 < limit_of s.now) × (unused_wrong s.now ≡ false) }
-    ensures { result ≡ rows_read s.now }
+    ensures refusal { refusal_in result ≡ first_wrong 1 (rows_of s.now) }
+    ensures log { IfOk result (λ log. log ≡ log_of s.now) }
 {
     let n = s[0];
     let mut log = Log {
         count: n,
-        rows: [no_row(); ROW_LIMIT],
+        ..no_log()
     };
-    let mut i: usize = 0;
-    let end = n as usize;
-    while i < end {
+    for i in 0..usize::from(n) {
         let row = row_inside(s, 1 + i * ROW_SIZE);
-        let f = row_field(row);
-        if 0 < f {
-            return no_log(row_refusal(i, f));
+        if let Some(field) = row_field(row) {
+            return Err(row_refusal(i, field));
         }
         log.rows[i] = row;
-        i += 1;
     }
-    let passed = refuse(0);
-    LogRead {
-        refusal: passed,
-        log: log,
-    }
+    Ok(log)
 }
 
-#[tactic(auto, using(crate::proofs::ReadLaws::read_formless, crate::proofs::ReadLaws::read_unused, crate::proofs::ReadLaws::read_rows, record_unused::proofs::CountLaws::form))]
+// Checks 1 to 3, and the log where none refuses.
+#[tactic(auto, unfolding(rules::specs::Reading::read_log, rules::specs::Base::first, rules::specs::Base::when, rules::specs::Limits::limit_of))]
+fn checked_log(s: &[u8]) -> Result<Log, Fault>
+    ensures refusal { refusal_in result ≡ (read_log s.now).refusal }
+    ensures log { IfOk result (λ log. log ≡ log_of s.now) }
+{
+    row_limit(s.len()).ok_or(Fault::Length)?;
+    if unused_wrong(s) {
+        return Err(Fault::Unused);
+    }
+    read_rows(s)
+}
+
+#[tactic(auto, unfolding(rules::specs::Reading::read_log))]
 pub fn read_log(s: &[u8]) -> LogRead
     ensures { result ≡ read_log s.now }
 {
-    if row_limit(s.len()) == 0 {
-        return no_log(refuse(1));
+    match checked_log(s) {
+        Ok(log) => LogRead {
+            refusal: Refusal::default(),
+            log,
+        },
+        Err(fault) => LogRead {
+            refusal: Refusal::from(fault),
+            log: no_log(),
+        },
     }
-    if unused_wrong(s) {
-        return no_log(refuse(2));
-    }
-    read_rows(s)
 }

@@ -1,2 +1,0 @@
--- Check 3 of rows that are read.
-pub mod Rows
