@@ -1,5 +1,5 @@
 -- Bytes as one number of 64 bits, and the fields that a bit reader and a bit writer cut from it and put into it.
-use Rattle.std.specs.Prelude.{◌≡◌, ℕ, ◌+◌, ◌-◌, ◌*◌, ◌/◌, ◌%◌, ◌^◌, ◌<◌, List, length, slice_index}
+use Rattle.std.specs.Prelude.{◌≡◌, ℕ, ◌+◌, ◌-◌, ◌*◌, ◌/◌, ◌%◌, ◌^◌, ◌<◌}
 
 -- the bytes of a word, and its bits
 abbrev pub word_size : ℕ
@@ -7,15 +7,6 @@ word_size = 8
 
 abbrev pub word_bits : ℕ
 word_bits = word_size * 8
-
--- Four bytes from i on, the first the most significant; 0 past the end.
-abbrev pub window_at : List ℕ → ℕ → ℕ
-window_at s i = ((slice_index s i * 256 + slice_index s (i + 1)) * 256 + slice_index s (i + 2)) * 256 + slice_index s (i + 3)
-
--- s with zeros behind it: the same bytes
-pub record Padded (s b : List ℕ) : Type 0 where
-  pub long : length b ≡ word_size
-  pub byte : (k : ℕ) → slice_index b k ≡ slice_index s k
 
 -- the n bits that begin at bit `at`, bit 0 being the top bit
 unfoldable pub field_of : ℕ → ℕ → ℕ → ℕ

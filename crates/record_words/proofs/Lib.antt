@@ -1,3 +1,2 @@
--- Laws of bytes as one number, and of records with zeros behind them.
-pub mod PaddedLaws
+-- Laws of bytes as one number.
 pub mod NumberLaws
