@@ -5,14 +5,12 @@ use mathlib.Core.List.{List, [], ◌∷◌}
 use Prim.Native.Nat.{ℕ, zero, suc, ◌+◌, ◌*◌, ◌-◌, ◌^◌, ◌<◌, ◌≤◌, max}
 use native.Mathlib.Nat.{mul-le-mul, mul-le-mul_right}
 use native.Mathlib.Omega.{arith}
-use lib.Dec.{ltb}
 use lib.ListN.{length}
 use borrow.Author.Tests.{lt-ltb, le-ltb}
 use Rattle.rules.specs.declared.Soil.{Soil}
 use Rattle.rules.specs.declared.Pile.{Pile}
 use Rattle.rules.specs.declared.Slice.{Slice}
 use Rattle.rules.specs.Bounds.{friction_bound, factor_bound, weight_bound}
-use Rattle.rules.specs.Base.{pick}
 use Rattle.rules.specs.Pieces.{piece, cut_from}
 use Rattle.rules.specs.Grades.{raising, lowering}
 use Rattle.rules.specs.Numbers.{hundredths, mid_of, factor, slice_of, slice_each, friction_sum}
@@ -23,8 +21,9 @@ use Rattle.norm_grades.specs.declared.Shift.{Shift}
 use Rattle.norm_friction.specs.Columns.{column_friction}
 use Rattle.norm_friction.proofs.Reading.{soil_column}
 use Rattle.record_slice_table.specs.Table.{put_at, put_all}
-use Rattle.ground_cuts.specs.Cuts.{slices_in, thick_here, weight_of, slice_by, Shifted, Read}
+use Rattle.ground_cuts.specs.Cuts.{slices_in, thick_here, weight_of, slice_by, slices_by, left_of, Shifted, Read, Cuttable, CutOff}
 use Rattle.ground_cuts.specs.declared.Cut.{Cut}
+use Rattle.ground_cuts.specs.declared.slices.Slices.{Slices}
 
 pub read_is : (column : Column) (shift : Shift) (a b t f k : ℕ) → a < b → b < 2 ^ 16 → Shifted shift a → t ≡ thick_here a b
     → (f ≡ column_friction column (a + shift.raising - shift.lowering + (a + shift.raising - shift.lowering) + t)) × (f ≤ friction_bound)
@@ -36,14 +35,6 @@ read_is column shift a b t f k h l s e ef lk = record {
   fits = (omega arith, (omega arith, (omega (arith, ef.1), (omega arith, tt))));
   light = mul-le-mul ef.1 lk;
 }
-
--- the slices from a to b by column, factor and shift, at most k
-unfoldable pub slices_by : Column → ℕ → Shift → ℕ → ℕ → ℕ → List Slice
-slices_by column factor shift zero a b = []
-slices_by column factor shift (suc k) a b =
-    let t = thick_here a b in
-    let more = slice_by column factor shift a t ∷ slices_by column factor shift k (a + t) b in
-    pick (ltb a b) more []
 
 -- the shift of a pile's site
 abbrev pub shift_for : Pile → Shift
@@ -64,10 +55,6 @@ by_soil p s column k x f (suc n) a b =
     (split a b)
 
 module _ (column : Column) (factor : ℕ) (shift : Shift) where
-  -- the slices that are left from depth a on
-  abbrev pub left : ℕ → ℕ → List Slice
-  left a b = slices_by column factor shift (b - a) a b
-
   -- as many turns as there are millimetres do
   enough : (k j a b : ℕ) → b - a ≤ k → b - a ≤ j → slices_by column factor shift k a b ≡ slices_by column factor shift j a b
   unfolding slices_by
@@ -80,7 +67,7 @@ module _ (column : Column) (factor : ℕ) (shift : Shift) where
       (λ (z : b ≤ a). rw (le-ltb a b z))
       (split a b)
 
-  next_is : (a b : ℕ) → a < b → left a b ≡ slice_by column factor shift a (thick_here a b) ∷ left (a + thick_here a b) b
+  next_is : (a b : ℕ) → a < b → slices_by column factor shift (b - a) a b ≡ slice_by column factor shift a (thick_here a b) ∷ slices_by column factor shift (b - (a + thick_here a b)) (a + thick_here a b) b
   unfolding slices_by
   next_is a b h =
       let t : ℕ = thick_here a b in
@@ -88,56 +75,87 @@ module _ (column : Column) (factor : ℕ) (shift : Shift) where
       let more : slices_by column factor shift (suc (b - a - 1)) a b ≡ slice_by column factor shift a t ∷ slices_by column factor shift (b - a - 1) (a + t) b = rw (lt-ltb a b h) in
       ap (λ (k : ℕ). slices_by column factor shift k a b) one ∙ more ∙ ap (λ (x : List Slice). slice_by column factor shift a t ∷ x) (enough (b - a - 1) (b - (a + t)) (a + t) b (omega arith) (omega arith))
 
-  none_left : (a b : ℕ) → b ≤ a → left a b ≡ []
+  none_left : (a b : ℕ) → b ≤ a → slices_by column factor shift (b - a) a b ≡ []
   unfolding slices_by
   none_left a b h = let z : b - a ≡ 0 = omega arith in rw z
 
-  -- the part from a to b is cut down to depth at
-  pub record Cutting (place a b : ℕ) (bytes₀ bytes : List ℕ) (used sum at : ℕ) : Type 0 where
-    pub table : put_all bytes₀ place (left a b) ≡ put_all bytes used (left at b)
-    pub count : place + length (left a b) ≡ used + length (left at b)
-    pub sums : friction_sum (left a b) ≡ sum + friction_sum (left at b)
-    pub small : sum ≤ weight_bound * (at - a)
-    pub low : a ≤ at
-    pub high : at ≤ max a b
-    pub long : length bytes ≡ length bytes₀
+-- the slice that is cut off is the first of those that were left
+first_left : {s t : Slices} {c : Slice} → CutOff s c t → left_of s ≡ c ∷ left_of t
+first_left {s} {t} {c} o =
+    let thick : c.thickness ≡ thick_here s.at s.end = ap (λ (x : Slice). x.thickness) o.read.is in
+    next_is s.column s.factor s.shift s.at s.end o.some
+    ∙ (λ i. sym o.read.is i ∷ left_of (record s { at = s.at + sym thick i }))
+    ∙ ap (λ (x : Slices). c ∷ left_of x) (sym o.on)
 
-  pub cutting_none : (place a b : ℕ) (bytes : List ℕ) → Cutting place a b bytes bytes place 0 a
-  cutting_none place a b bytes = record { table = refl; count = refl; sums = omega arith; small = omega arith; low = omega arith; high = omega arith; long = refl }
+-- of a part from a on, whose slices are `all`, what is left is s: the others stand in the table from `place` on, and are counted and added up
+pub record Cutting (all : List Slice) (place a b : ℕ) (bytes₀ bytes : List ℕ) (used sum : ℕ) (s : Slices) : Type 0 where
+  pub can : Cuttable s
+  pub table : put_all bytes₀ place all ≡ put_all bytes used (left_of s)
+  pub count : place + length all ≡ used + length (left_of s)
+  pub sums : friction_sum all ≡ sum + friction_sum (left_of s)
+  pub small : sum ≤ weight_bound * (s.at - a)
+  pub low : a ≤ s.at
+  pub high : s.at ≤ max a b
+  pub end_is : s.end ≡ b
+  pub long : length bytes ≡ length bytes₀
 
-  module _ {place a b : ℕ} {bytes₀ bytes : List ℕ} {used sum at : ℕ} (g : Cutting place a b bytes₀ bytes used sum at) where
+pub cutting_none : (place : ℕ) (bytes : List ℕ) {all : List Slice} {a b : ℕ} (s : Slices) → Cuttable s × (left_of s ≡ all) × (s.at ≡ a) × (s.end ≡ b)
+    → Cutting all place a b bytes bytes place 0 s
+cutting_none place bytes s (can, l, f, e) = record {
+  can = can;
+  table = ap (put_all bytes place) (sym l);
+  count = omega (arith, ap length l);
+  sums = omega (arith, ap friction_sum l);
+  small = omega arith;
+  low = omega arith;
+  high = omega arith;
+  end_is = e;
+  long = refl;
+}
+
+module _ {all : List Slice} {place a b : ℕ} {bytes₀ bytes : List ℕ} {used sum : ℕ} {s : Slices} (g : Cutting all place a b bytes₀ bytes used sum s) where
+  module _ {c : Slice} {t : Slices} (o : CutOff s c t) where
     -- a place is left for the next slice
-    pub one_more : at < b → used + 1 ≤ place + length (left a b)
-    one_more h = omega (arith, g.count, ap length (next_is at b h))
+    pub one_more : used + 1 ≤ place + length all
+    one_more = omega (arith, g.count, ap length (first_left o))
 
-    pub cutting_more : (r : Slice) (w : ℕ) (e : List ℕ) → at < b → Read column factor shift at b r → w ≡ weight_of r → e ≡ put_at bytes used r → length e ≡ length bytes
-        → Cutting place a b bytes₀ e (used + 1) (sum + w) (at + r.thickness)
+    -- the sum stays in its bound
+    pub sum_small : sum + weight_of c ≤ weight_bound * 2 ^ 16
+    sum_small =
+        let can = g.can in
+        let thick : c.thickness ≡ thick_here s.at s.end = ap (λ (x : Slice). x.thickness) o.read.is in
+        omega (arith, g.small, thick, can.deep, o.some, mul-le-mul_right c.thickness o.read.light)
+
+    pub cutting_more : (w : ℕ) (e : List ℕ) → Cuttable t → w ≡ weight_of c → e ≡ put_at bytes used c → length e ≡ length bytes
+        → Cutting all place a b bytes₀ e (used + 1) (sum + w) t
     unfolding put_all friction_sum
-    cutting_more r w e h d y q l =
-        let t : ℕ = thick_here at b in
-        let n = next_is at b h in
-        let thick : r.thickness ≡ t = ap (λ (x : Slice). x.thickness) d.is in
-        let on : left (at + r.thickness) b ≡ left (at + t) b = ap (λ (z : ℕ). left (at + z) b) thick in
+    cutting_more w e can y q l =
+        let n = first_left o in
+        let thick : c.thickness ≡ thick_here s.at s.end = ap (λ (x : Slice). x.thickness) o.read.is in
+        let at : t.at ≡ s.at + c.thickness = ap (λ (x : Slices). x.at) o.on in
+        let end : t.end ≡ s.end = ap (λ (x : Slices). x.end) o.on in
         record {
-          table = g.table ∙ ap (put_all bytes used) n ∙ ap (λ (z : List ℕ). put_all z (used + 1) (left (at + t) b)) (sym (q ∙ ap (put_at bytes used) d.is)) ∙ ap (put_all e (used + 1)) (sym on);
-          count = omega (arith, g.count, ap length n, ap length on);
-          sums = g.sums ∙ omega (arith, ap friction_sum n, ap friction_sum on, y ∙ ap weight_of d.is);
-          small = omega (arith, g.small, g.low, y, mul-le-mul_right r.thickness d.light);
-          low = omega (arith, g.low);
-          high = omega (arith, thick);
+          can = can;
+          table = g.table ∙ ap (put_all bytes used) n ∙ ap (λ (z : List ℕ). put_all z (used + 1) (left_of t)) (sym q);
+          count = omega (arith, g.count, ap length n);
+          sums = g.sums ∙ omega (arith, ap friction_sum n, y);
+          small = omega (arith, g.small, g.low, y, at, mul-le-mul_right c.thickness o.read.light);
+          low = omega (arith, g.low, at);
+          high = omega (arith, thick, at, g.high, g.end_is, o.some);
+          end_is = end ∙ g.end_is;
           long = l ∙ g.long;
         }
 
-    pub cutting_all : (cs : List Slice) → left a b ≡ cs → b ≤ at
-        → (◌≡◌ {A = Cut} (record { used = used; sum = sum }) (record { used = place + length cs; sum = friction_sum cs }) × (sum ≤ weight_bound * (b - a))) × (bytes ≡ put_all bytes₀ place cs)
-    unfolding put_all friction_sum
-    cutting_all cs e h =
-        let z = none_left at b h in
-        let u : used ≡ place + length cs = omega (arith, g.count, ap length z, ap length e) in
-        let v : sum ≡ friction_sum cs = omega (arith, g.sums, ap friction_sum z, ap friction_sum e) in
-        (((λ i. record { used = u i; sum = v i }), omega (arith, g.small, g.high)), sym (ap (put_all bytes₀ place) (sym e) ∙ g.table ∙ ap (put_all bytes used) z))
+  pub cutting_all : s.end ≤ s.at
+      → (◌≡◌ {A = Cut} (record { used = used; sum = sum }) (record { used = place + length all; sum = friction_sum all }) × (sum ≤ weight_bound * (b - a))) × (bytes ≡ put_all bytes₀ place all)
+  unfolding put_all friction_sum
+  cutting_all h =
+      let z = none_left s.column s.factor s.shift s.at s.end h in
+      let u : used ≡ place + length all = omega (arith, g.count, ap length z) in
+      let v : sum ≡ friction_sum all = omega (arith, g.sums, ap friction_sum z) in
+      (((λ i. record { used = u i; sum = v i }), omega (arith, g.small, g.high)), sym (g.table ∙ ap (put_all bytes used) z))
 
--- what is asked of a soil's part and what is left of it, by its column and factor and the site's shift
+-- the slices of a soil's part, by its column and factor and the site's shift
 pub soil_left : (p : Pile) (s : Soil) (column : Column) (k : ℕ) (shift : Shift) (a b : ℕ) → Across 7 (hundredths s) column → k ≡ factor p.method s.kind → shift ≡ shift_for p
-    → left column k shift a b ≡ slices_in p s a b
-soil_left p s column k shift a b x f e = ap (λ (h : Shift). left column k h a b) e ∙ sym (by_soil p s column k x f (b - a) a b)
+    → slices_by column k shift (b - a) a b ≡ slices_in p s a b
+soil_left p s column k shift a b x f e = ap (λ (h : Shift). slices_by column k h (b - a) a b) e ∙ sym (by_soil p s column k x f (b - a) a b)

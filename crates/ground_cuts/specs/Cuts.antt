@@ -1,17 +1,19 @@
 -- The slices of a part of one stratum, said of the paper's cut, and one of them as it is worked out.
-use Rattle.std.specs.Prelude.{◌≡◌, List, ℕ, ◌+◌, ◌*◌, ◌-◌, ◌^◌, ◌≤◌, min}
+use Rattle.std.specs.Prelude.{◌≡◌, List, [], ◌∷◌, ℕ, suc, zero, ◌+◌, ◌*◌, ◌-◌, ◌^◌, ◌<◌, ◌≤◌, min, ltb, Option, MatchOption}
 use Rattle.rules.specs.declared.Soil.{Soil}
 use Rattle.rules.specs.declared.Pile.{Pile}
 use Rattle.rules.specs.declared.Slice.{Slice}
 use Rattle.rules.specs.Widths.{Fits}
 use Rattle.rules.specs.Records.{slice_widths, slice_fields}
 use Rattle.rules.specs.Limits.{slice_thickness}
-use Rattle.rules.specs.Bounds.{weight_bound}
+use Rattle.rules.specs.Bounds.{factor_bound, weight_bound}
+use Rattle.rules.specs.Base.{pick}
 use Rattle.rules.specs.Pieces.{cut_from}
 use Rattle.rules.specs.Numbers.{slice_each}
 use Rattle.norm_columns.specs.declared.Column.{Column}
 use Rattle.norm_grades.specs.declared.Shift.{Shift}
-use Rattle.norm_friction.specs.Columns.{column_friction}
+use Rattle.norm_friction.specs.Columns.{FrictionColumn, column_friction}
+use Rattle.ground_cuts.specs.declared.slices.Slices.{Slices}
 
 -- the slices from depth a to b, where all of it is soil s
 abbrev pub slices_in : Pile → Soil → ℕ → ℕ → List Slice
@@ -39,3 +41,32 @@ pub record Read (column : Column) (factor : ℕ) (shift : Shift) (a b : ℕ) (r 
   pub is : r ≡ slice_by column factor shift a (thick_here a b)
   pub fits : Fits slice_widths (slice_fields r)
   pub light : r.friction * r.factor ≤ weight_bound
+
+-- the slices from a to b by column, factor and shift, at most k
+unfoldable pub slices_by : Column → ℕ → Shift → ℕ → ℕ → ℕ → List Slice
+slices_by column factor shift zero a b = []
+slices_by column factor shift (suc k) a b =
+    let t = thick_here a b in
+    let more = slice_by column factor shift a t ∷ slices_by column factor shift k (a + t) b in
+    pick (ltb a b) more []
+
+-- the slices that are left of a part: as many turns as there are millimetres do
+abbrev pub left_of : Slices → List Slice
+left_of s = slices_by s.column s.factor s.shift (s.end - s.at) s.at s.end
+
+-- a part whose slices can be read
+pub record Cuttable (s : Slices) : Type 0 where
+  pub column : FrictionColumn s.column
+  pub factor : s.factor ≤ factor_bound
+  pub shift : Shifted s.shift s.at
+  pub deep : s.end < 2 ^ 16
+
+-- c is cut off s, and t is what is left
+pub record CutOff (s : Slices) (c : Slice) (t : Slices) : Type 0 where
+  pub some : s.at < s.end
+  pub read : Read s.column s.factor s.shift s.at s.end c
+  pub on : t ≡ record s { at = s.at + c.thickness }
+
+-- none is left from the end on
+abbrev pub Goes : Slices → Option Slice → Slices → Type 0
+Goes s r t = MatchOption r (s.end ≤ s.at) (λ c. CutOff s c t)

@@ -1,10 +1,7 @@
--- The part is cut down to depth at: what was put, counted and added up so far and what is left are together the whole part.
-use Rattle.std.proofs.Common.{◌-◌}
+-- What was put, counted and added up so far and what is left are together the whole part.
+use Rattle.ground_cuts.specs.Cuts.{slices_in}
 use Rattle.ground_cuts.proofs.SliceLaws.{Cutting}
 use Rattle.ground_cuts.proofs.cut_part.Given as goal
 
-abbrev pub invariant-loop-at : goal.invariant-loop-at
-invariant-loop-at l = Cutting l.column l.factor l.shift l.place l.from l.end l.initial.table l.table l.used l.sum l.at
-
-abbrev pub decreases-loop-at : goal.decreases-loop-at
-decreases-loop-at l = l.end - l.at
+abbrev pub invariant-loop-slice : goal.invariant-loop-slice
+invariant-loop-slice l = Cutting (slices_in l.fn.pile l.fn.soil l.from l.end) l.place l.from l.end l.initial.table l.table l.used l.sum l.slice-iterator

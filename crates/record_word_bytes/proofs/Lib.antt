@@ -1,0 +1,2 @@
+-- Laws of a number's bytes.
+pub mod ByteLaws
