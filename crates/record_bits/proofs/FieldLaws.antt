@@ -32,8 +32,9 @@ fields_put k (◌then◌ {w} {at} {n} {v} {w₁} {at₁} {w'} {ns} {vs} p on) h 
     let i : at₁ + (bits_of ns + k) ≡ word_bits = omega arith in
     fields_put k on i ∙ rw (p.sum, e, mod-add-mod, pow-add, add-mul, mul_assoc, add_assoc)
 
--- the bytes of the word that they make, where k bits are behind them
-pub bytes_put : (k : ℕ) {at w y : ℕ} {b ws vs : List ℕ} → b ≡ fields_of (bytes word_size) w → Putting 0 at ws vs w → at + (bits_of ws + k) ≡ word_bits → join ws vs * 2 ^ k ≡ y → b ≡ fields_of (bytes word_size) y
-bytes_put k {w = w} {y = y} e p h f =
+-- the bytes of the word that they make, put into a word of zeros, where k bits are behind them
+pub bytes_put : (k : ℕ) {at w₀ w y : ℕ} {b ws vs : List ℕ} → b ≡ fields_of (bytes word_size) w → Putting w₀ at ws vs w → (w₀ ≡ 0) × (at + (bits_of ws + k) ≡ word_bits) → join ws vs * 2 ^ k ≡ y
+    → b ≡ fields_of (bytes word_size) y
+bytes_put k {w = w} {y = y} {vs = vs} e p h f =
     let same : (x : ℕ) → fields_of (bytes word_size) (x % 2 ^ word_bits) ≡ fields_of (bytes word_size) x = cut_mod (bytes word_size) 0 in
-    e ∙ sym (same w) ∙ ap (fields_of (bytes word_size)) (fields_put k p h ∙ rw (zero-add, f)) ∙ same y
+    e ∙ sym (same w) ∙ ap (fields_of (bytes word_size)) (fields_put k p h.1 ∙ rw (h.0, zero-add, f)) ∙ same y
