@@ -2,13 +2,21 @@
 // Each `requires` is that the log has the places that are moved, and that the count can be so; the checks see to both.
 #![tactic(auto)]
 
-ghost use Rattle.std.specs.Prelude.{◌≡◌, ◌+◌, ◌-◌, ◌*◌, ◌≤◌, ◌<◌, length};
+ghost use Rattle.std.specs.Prelude.{◌≡◌, ◌+◌, ◌-◌, ◌*◌, ◌≤◌, ◌^◌, ◌<◌, length};
 ghost use Rattle.rules.specs.Records.{row_size};
 ghost use Rattle.rules.specs.Packed.{count_of};
 ghost use Rattle.edit_moves.specs.Moves.{with_count, replaced_log, inserted_log, removed_log, divided_log};
 
 use base_copies::copy_in;
 use rules::ROW_SIZE;
+
+// Where row k begins.
+fn row_start(k: usize) -> usize
+    requires { (1 ≤ k) × (1 + k * row_size < 2 ^ 64) }
+    ensures { result ≡ 1 + (k - 1) * row_size }
+{
+    1 + (k - 1) * ROW_SIZE
+}
 
 fn raise_count(log: &mut [u8])
     requires count { 1 ≤ length log.old }
@@ -18,21 +26,12 @@ fn raise_count(log: &mut [u8])
     log[0] += 1;
 }
 
-fn lower_count(log: &mut [u8])
-    requires count { 1 ≤ length log.old }
-    requires rows { 1 ≤ count_of log.old }
-    ensures { log.new ≡ with_count (count_of log.old - 1) log.old }
-{
-    log[0] -= 1;
-}
-
 #[tactic(auto, using(crate::proofs::PartLaws::row_put))]
 pub fn replace_row(log: &mut [u8], k: usize, row: [u8; ROW_SIZE])
     requires { (1 ≤ k) × (1 + k * row_size ≤ length log.old) }
     ensures { log.new ≡ replaced_log (k - 1) row log.old }
 {
-    let place = 1 + (k - 1) * ROW_SIZE;
-    copy_in(log, place, &row);
+    copy_in(log, row_start(k), &row);
 }
 
 pub fn insert_row(log: &mut [u8], k: usize, row: [u8; ROW_SIZE])
@@ -41,8 +40,7 @@ pub fn insert_row(log: &mut [u8], k: usize, row: [u8; ROW_SIZE])
     ensures { log.new ≡ inserted_log (k - 1) row log.old }
 {
     raise_count(log);
-    let at = 1 + (k - 1) * ROW_SIZE;
-    edit_row_places::insert_first(&mut log[at..], row);
+    edit_row_places::insert_first(&mut log[row_start(k)..], row);
 }
 
 pub fn remove_row(log: &mut [u8], k: usize)
@@ -50,9 +48,8 @@ pub fn remove_row(log: &mut [u8], k: usize)
     requires rows { 1 ≤ count_of log.old }
     ensures { log.new ≡ removed_log (k - 1) log.old }
 {
-    lower_count(log);
-    let at = 1 + (k - 1) * ROW_SIZE;
-    edit_row_places::close_place(&mut log[at..]);
+    log[0] -= 1;
+    edit_row_places::close_place(&mut log[row_start(k)..]);
 }
 
 // Row k gives way to its two parts.
@@ -62,6 +59,5 @@ pub fn split_row(log: &mut [u8], k: usize, upper: [u8; ROW_SIZE], lower: [u8; RO
     ensures { log.new ≡ divided_log (k - 1) upper lower log.old }
 {
     raise_count(log);
-    let at = 1 + (k - 1) * ROW_SIZE;
-    edit_row_places::split_first(&mut log[at..], upper, lower);
+    edit_row_places::split_first(&mut log[row_start(k)..], upper, lower);
 }
