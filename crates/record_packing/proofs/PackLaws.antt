@@ -2,85 +2,70 @@
 use mathlib.Core.Path.{◌≡◌, refl, sym, ◌∙◌}
 use mathlib.Core.Bool.{Bool, true, false}
 use mathlib.Core.List.{List, [], ◌∷◌, ◌++◌, append-nil, map}
-use Prim.Native.Nat.{ℕ, ◌+◌, ◌*◌, ◌<◌, ◌≤◌, min}
+use Prim.Native.Nat.{ℕ, ◌+◌, ◌*◌, ◌<◌, ◌≤◌}
 use native.Mathlib.Numerals.{add-one}
 use native.Mathlib.Omega.{arith}
-use borrow.Author.Tests.{lt-ltb, le-ltb, eq-eqb, ne_eqb}
-use lib.ListN.{length, get_or, take, drop, set, length-take, length-drop, length-append, length-map, drop_of_length-le, take-append-drop}
-use lib.Seq.{drop-cons, get_or-take, get_or-drop, drop-drop}
+use lib.ListN.{length, get_or, take, drop, set, length-drop, length-append, length-map, drop_of_length-le, take-append-drop}
+use lib.Seq.{take_all, drop-cons, get_or-drop, drop-drop}
 use Rattle.rules.specs.declared.Row.{Row}
 use Rattle.rules.specs.declared.Log.{Log}
 use Rattle.rules.specs.declared.Refusal.{Refusal}
-use Rattle.rules.specs.Base.{refuse, first, when}
+use Rattle.rules.specs.Base.{both, nothing, refuse, first, when}
 use Rattle.rules.specs.Records.{row_size}
-use Rattle.rules.specs.Limits.{row_limit, forms, log_size, form_by, limit_of}
+use Rattle.rules.specs.Limits.{row_limit, log_size}
 use Rattle.rules.specs.Packed.{no_row, row_bytes, places_bytes, log_bytes}
-use Rattle.rules.specs.Checks.{count_wrong, first_wrong}
-use Rattle.rules.specs.Reading.{row_zero, rows_zero, unused_fields, pack_log_check, packed_log}
-use Rattle.rules.proofs.FormLaws.{form_size}
+use Rattle.rules.specs.Checks.{count_wrong, wrong_field, first_wrong}
+use Rattle.rules.specs.Reading.{row_zero, rows_zero, unused_fields}
 use Rattle.rules.proofs.PlacesLaws.{row_long, places_length, places_take, places_drop}
+use Rattle.rules.specs.declared.faults.RowField.{RowField}
+use Rattle.rules.specs.Faults.{row_field_number}
+use Rattle.record_log_checks.proofs.RowsLaws.{wrong_here, wrong_below}
+use Rattle.std.proofs.Common.{◌&&◌}
+use Rattle.std.specs.List.{list_all}
 use Rattle.base_copies.proofs.CopyLaws.{with, with_behind}
 
 -- The length that a log's relation gives of its places, each as a tuple, is that of the places.
 pub places : {B : Type 0} (rs : List Row) (f : Row → B) → length (map f rs) ≡ row_limit → length rs ≡ row_limit
 places rs f e = sym (length-map rs f) ∙ e
 
--- the first n rows from row i on
-pub row_of : (n i : ℕ) (rs : List Row) → i < n → i < length rs → drop i (take n rs) ≡ get_or rs i no_row ∷ drop (i + 1) (take n rs)
-row_of n i rs h l =
-    let k : i < length (take n rs) = simp length-take (omega arith) in
-    rw (add-one, drop-cons (take n rs) i no_row k, get_or-take n rs i no_row h)
+-- rows that are all zero
+pub rows_zero_all : (rs : List Row) → list_all row_zero rs ≡ rows_zero rs
+unfolding rows_zero
+rows_zero_all [] = refl
+rows_zero_all (r ∷ rs) = go (row_zero r) (list_all row_zero rs) (rows_zero rs) (rows_zero_all rs)
+  where
+    go : (t a b : Bool) → a ≡ b → (t && a) ≡ both t b
+    go true a b e = e
+    go false a b e = refl
 
-pub none_of : (n i : ℕ) (rs : List Row) → min n (length rs) ≤ i → drop i (take n rs) ≡ []
-none_of n i rs h = let k : length (take n rs) ≤ i = simp length-take h in drop_of_length-le (take n rs) k
+-- checks 2 and 3 of fields whose count is right
+module _ (limit : ℕ) (l : Log) (long : length l.rows ≤ row_limit) (h : count_wrong limit l.count ≡ false) where
+  pub unused_refused : rows_zero (drop l.count l.rows) ≡ false → refuse 2 ≡ first (when (unused_fields limit l) 2) (first_wrong 1 (take l.count l.rows))
+  unfolding unused_fields first when
+  unused_refused g = rw (h, take_all row_limit l.rows long, g)
 
--- the unused places, looked through from the first
-module _ (r : Row) (rs ts : List Row) (z all : Bool) (head : ts ≡ r ∷ rs) (told : z ≡ row_zero r) (left : rows_zero ts ≡ all) where
-  pub unused_stop : z ≡ false → false ≡ all
-  unfolding rows_zero
-  unused_stop h = rw (head, ← told, h) at left
+  pub unused_passed : rows_zero (drop l.count l.rows) ≡ true → first_wrong 1 (take l.count l.rows) ≡ first (when (unused_fields limit l) 2) (first_wrong 1 (take l.count l.rows))
+  unfolding unused_fields first when
+  unused_passed g = rw (h, take_all row_limit l.rows long, g)
 
-  pub unused_more : z ≡ true → rows_zero rs ≡ all
-  unfolding rows_zero
-  unused_more h = rw (head, ← told, h) at left
+-- the rows before row i are right: the others refuse as all do
+abbrev pub Checked : List Row → ℕ → Type 0
+Checked rs i = first_wrong (i + 1) (drop i rs) ≡ first_wrong 1 rs
 
--- check 2 of fields
-module _ (n : ℕ) (l : Log) where
-  pub count_refused : count_wrong n l.count ≡ true → refuse 2 ≡ when (unused_fields n l) 2
-  unfolding unused_fields when
-  count_refused h = rw h
+from_row : (rs : List Row) (i : ℕ) → i < length rs → drop i rs ≡ get_or rs i no_row ∷ drop (i + 1) rs
+from_row rs i h = rw (add-one, drop-cons rs i no_row h)
 
-  module _ (h : count_wrong n l.count ≡ false) where
-    pub unused_refused : rows_zero (drop l.count (take row_limit l.rows)) ≡ false → refuse 2 ≡ when (unused_fields n l) 2
-    unfolding unused_fields when
-    unused_refused g = rw (h, g)
+module _ (rs : List Row) (i : ℕ) (k : Checked rs i) where
+  pub checked_wrong : i < length rs → (field : RowField) → row_field_number field ≡ wrong_field (get_or rs i no_row)
+      → ◌≡◌ {A = Refusal} (record { number = 3; row = i + 1; field = row_field_number field }) (first_wrong 1 rs)
+  checked_wrong h field e = wrong_here (i + 1) _ _ _ _ (from_row rs i h) k field e
 
-    pub unused_passed : rows_zero (drop l.count (take row_limit l.rows)) ≡ true → refuse 0 ≡ when (unused_fields n l) 2
-    unfolding unused_fields when
-    unused_passed g = rw (h, g)
+  pub checked_more : i < length rs → 0 ≡ wrong_field (get_or rs i no_row) → Checked rs (i + 1)
+  checked_more h e = wrong_below (i + 1) _ _ _ _ (from_row rs i h) k (sym e)
 
--- a form has its size
-pub form_long : (len n : ℕ) → n ≡ form_by log_size forms len → (n ≡ 0 → ⊥) → len ≡ log_size n
-form_long len n e h = rw e (form_size log_size len (omega (arith, h)))
-
--- what packing a log replies and leaves, by the limit that the buffer's length tells
-module _ (l : Log) (s : List ℕ) (n : ℕ) (e : n ≡ form_by log_size forms (length s)) where
-  pub pack_formless : n ≡ 0 → (refuse 1 ≡ pack_log_check l s) × (s ≡ packed_log l s)
-  unfolding pack_log_check packed_log first when limit_of
-  pack_formless h = (rw (← e, eq-eqb _ _ h), rw (← e, eq-eqb _ _ h))
-
-  module _ (h : n ≡ 0 → ⊥) (r : Refusal) (g : r ≡ first (when (unused_fields n l) 2) (first_wrong 1 (take l.count l.rows))) where
-    replied : r ≡ pack_log_check l s
-    unfolding pack_log_check first when limit_of
-    replied = rw (← e, ne_eqb _ _ h) g
-
-    pub pack_refused : 0 < r.number → (r ≡ pack_log_check l s) × (s ≡ packed_log l s)
-    unfolding packed_log
-    pack_refused k = (replied, rw (← replied, lt-ltb _ _ k))
-
-    pub pack_done : (t : List ℕ) → r.number ≤ 0 → t ≡ log_bytes n l → (r ≡ pack_log_check l s) × (t ≡ packed_log l s)
-    unfolding packed_log limit_of
-    pack_done t k f = (replied, rw (← replied, le-ltb _ _ k, ← e) f)
+  pub checked_end : length rs ≤ i → nothing ≡ first_wrong 1 rs
+  unfolding first_wrong
+  checked_end h = rw (drop_of_length-le rs h) at k
 
 -- one place more
 places_last : (i : ℕ) (rs : List Row) → places_bytes (i + 1) rs ≡ places_bytes i rs ++ row_bytes (get_or rs i no_row)

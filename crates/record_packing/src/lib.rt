@@ -1,105 +1,76 @@
 // Packing a log: its checks, and its count and row places as the bytes of the form that the lent buffer's length tells.
 #![tactic(auto)]
 
-ghost use Rattle.std.specs.Prelude.{◌≡◌, ◌≤◌, length, take, drop};
-ghost use Rattle.rules.specs.Base as Base;
-ghost use Rattle.rules.specs.Base.{when};
+ghost use Rattle.std.specs.Prelude.{◌≡◌, ◌≤◌, length, take};
+ghost use Rattle.rules.specs.Base.{when, first};
 ghost use Rattle.rules.specs.Limits.{row_limit, log_size};
 ghost use Rattle.rules.specs.Packed.{log_bytes};
 ghost use Rattle.rules.specs.Checks.{first_wrong};
+ghost use Rattle.rules.specs.Faults.{refusal_in};
 ghost use Rattle.rules.specs.Reading.{rows_zero, unused_fields, pack_log_check, packed_log};
 
 use base_copies::copy_in;
-use base_replies::{first, refuse};
 use record_lengths::row_limit;
 use record_log_checks::row_refusal;
 use record_row_bytes::row_bytes;
 use record_row_ranges::{row_field, row_zero};
 use record_unused::count_wrong;
-use rules::{Log, ROW_LIMIT, ROW_SIZE, Refusal};
+use rules::{Fault, Log, ROW_SIZE, Row};
 
-// Whether the row places from `from` on are all zero.
-fn unused_from(l: Log, from: usize) -> bool
-    ensures { result ≡ rows_zero (drop from (take row_limit l.rows)) }
+// Whether every field of these rows is 0.
+fn unused(rows: &[Row]) -> bool
+    ensures { result ≡ rows_zero rows.now }
 {
-    let mut i = from;
-    while i < ROW_LIMIT {
-        let row = l.rows[i];
-        if !row_zero(row) {
-            return false;
-        }
-        i += 1;
-    }
-    true
-}
-
-// Check 2 of fields that are packed.
-fn unused_refusal(l: Log, limit: usize) -> Refusal
-    ensures { result ≡ when (unused_fields limit l) 2 }
-{
-    if count_wrong(limit, l.count) {
-        return refuse(2);
-    }
-    if !unused_from(l, l.count as usize) {
-        return refuse(2);
-    }
-    refuse(0)
+    rows.iter().all(|row| row_zero(*row))
 }
 
 // Check 3 of the used rows.
-fn rows_refusal(l: Log) -> Refusal
-    ensures { result ≡ first_wrong 1 (take l.count l.rows) }
+fn rows_refusal(rows: &[Row]) -> Result<(), Fault>
+    requires { length rows.now ≤ row_limit }
+    ensures { refusal_in result ≡ first_wrong 1 rows.now }
 {
-    let n = l.count as usize;
-    let mut i: usize = 0;
-    while i < ROW_LIMIT {
-        if n <= i {
-            return refuse(0);
+    for (i, row) in rows.iter().enumerate() {
+        if let Some(field) = row_field(*row) {
+            return Err(row_refusal(i, field));
         }
-        let row = l.rows[i];
-        let f = row_field(row);
-        if 0 < f {
-            return row_refusal(i, f);
-        }
-        i += 1;
     }
-    refuse(0)
+    Ok(())
 }
 
-fn log_refusal(l: Log, limit: usize) -> Refusal
-    ensures { result ≡ Base.first (when (unused_fields limit l) 2) (first_wrong 1 (take l.count l.rows)) }
+// Checks 2 and 3 of fields that are packed.
+#[tactic(auto, unfolding(rules::specs::Reading::unused_fields, rules::specs::Base::first, rules::specs::Base::when))]
+fn log_refusal(log: &Log, limit: usize) -> Result<(), Fault>
+    requires { limit ≤ row_limit }
+    ensures { refusal_in result ≡ first (when (unused_fields limit log.now) 2) (first_wrong 1 (take log.now.count log.now.rows)) }
 {
-    let two = unused_refusal(l, limit);
-    let three = rows_refusal(l);
-    first(two, three)
+    if count_wrong(limit, log.count) {
+        return Err(Fault::Unused);
+    }
+    let (used, behind) = log.rows.split_at(usize::from(log.count));
+    if !unused(behind) {
+        return Err(Fault::Unused);
+    }
+    rows_refusal(used)
 }
 
-fn write_log(l: Log, limit: usize, buf: &mut [u8])
+fn write_log(log: &Log, limit: usize, buf: &mut [u8])
     requires { (limit ≤ row_limit) × (length buf.old ≡ log_size limit) }
-    ensures { buf.new ≡ log_bytes limit l }
+    ensures { buf.new ≡ log_bytes limit log.now }
 {
-    buf[0] = l.count;
-    let mut i: usize = 0;
-    while i < limit {
-        let row = l.rows[i];
-        let b = row_bytes(row);
-        copy_in(buf, 1 + i * ROW_SIZE, &b);
-        i += 1;
+    buf[0] = log.count;
+    for (i, row) in log.rows[..limit].iter().enumerate() {
+        copy_in(buf, 1 + i * ROW_SIZE, &row_bytes(*row));
     }
 }
 
 // A refused packing changes no byte.
-pub fn pack_log(l: Log, buf: &mut [u8]) -> Refusal
-    ensures { (result ≡ pack_log_check l buf.old) × (buf.new ≡ packed_log l buf.old) }
+#[tactic(auto, using(rules::proofs::FormLaws::form_size), unfolding(rules::specs::Reading::pack_log_check, rules::specs::Reading::packed_log, rules::specs::Base::first, rules::specs::Base::when, rules::specs::Limits::limit_of))]
+pub fn pack_log(log: Log, buf: &mut [u8]) -> Result<(), Fault>
+    ensures refusal { refusal_in result ≡ pack_log_check log buf.old }
+    ensures bytes { buf.new ≡ packed_log log buf.old }
 {
-    let limit = row_limit(buf.len());
-    if limit == 0 {
-        return refuse(1);
-    }
-    let r = log_refusal(l, limit);
-    if 0 < r.number {
-        return r;
-    }
-    write_log(l, limit, buf);
-    r
+    let limit = row_limit(buf.len()).ok_or(Fault::Length)?;
+    log_refusal(&log, limit)?;
+    write_log(&log, limit, buf);
+    Ok(())
 }
