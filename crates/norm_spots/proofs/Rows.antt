@@ -75,10 +75,10 @@ by_metre ds unit (suc n) i d p =
 
 module _ (ds : List ℕ) (unit m : ℕ) (t : Deepens ds unit m) where
   -- the depth read lies between the first row and the last
-  pub clamped : (d first last low depth : ℕ) → first ≡ get_or ds 0 0 * unit → last ≡ get_or ds (m + 1) 0 * unit
-      → low ≡ min d last → depth ≡ max first low → Clamped ds unit m d depth
-  clamped d first last low depth e₁ e₂ e₃ e₄ =
-      rw (e₄, e₃, e₂, e₁)
+  pub clamped : (d first last depth : ℕ) → first ≡ get_or ds 0 0 * unit → last ≡ get_or ds (m + 1) 0 * unit
+      → depth ≡ max first (min d last) → Clamped ds unit m d depth
+  clamped d first last depth e₁ e₂ e₃ =
+      rw (e₃, e₂, e₁)
       (let h : get_or ds 0 0 * unit ≤ get_or ds (m + 1) 0 * unit = mul-le-mul_right unit t.whole in
       record { is = refl; low = omega arith; high = omega arith })
 
@@ -87,7 +87,7 @@ module _ (ds : List ℕ) (unit m : ℕ) (t : Deepens ds unit m) where
   in_table c d q =
       let e : ℕ = max (get_or ds 0 0 * unit) (min d (get_or ds (m + 1) 0 * unit)) in
       let r : ℕ = row_for ds unit m 0 e in
-      let l = clamped d _ _ _ e refl refl refl refl in
+      let l = clamped d _ _ e refl refl refl in
       let b : Between ds unit 0 m e r = found ds unit m e r l.low l.high refl in
       let h : r ≤ m = omega arith in
       let s : 0 < get_or ds (r + 1) 0 - get_or ds r 0 = omega (arith, t.step r h) in

@@ -35,8 +35,8 @@ module _ (a b k : ℕ) (h : a ≤ k) (l : k < b) where
   pub row_stepped : (by : ℕ) → Agree (λ i. i / by) row → k / by ≡ row k
   row_stepped by = same (λ i. i / by) row
 
-  pub row_last : (most by more : ℕ) → Agree (λ i. min most (i / by + more)) row → min most (k / by + more) ≡ row k
-  row_last most by more = same (λ i. min most (i / by + more)) row
+  pub row_last : (most by more : ℕ) → Agree (λ i. min (i / by + more) most) row → min (k / by + more) most ≡ row k
+  row_last most by more = same (λ i. min (i / by + more) most) row
 
   pub depth_sloped : (n more by : ℕ) → Agree (λ i. (n * i + more) / by) depth → (n * k + more) / by ≡ depth k
   depth_sloped n more by = same (λ i. (n * i + more) / by) depth

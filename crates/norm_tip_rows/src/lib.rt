@@ -5,7 +5,6 @@ ghost use Rattle.std.specs.Prelude.{◌≡◌, ◌<◌, ◌≤◌, get_or};
 ghost use Rattle.rules.specs.Tables.{tip_depths, row_for, spot_of};
 ghost use Rattle.norm_spots.specs.Spots.{InTable};
 
-use base_order::{larger, smaller};
 use rules::Spot;
 
 // The row of table 7.8 in which a whole metre stands, of the nine that have one below.
@@ -20,7 +19,7 @@ fn tip_row(metre: u64) -> u64
     if metre < 20 {
         return metre / 3;
     }
-    smaller(8, metre / 10 + 5)
+    (metre / 10 + 5).min(8)
 }
 
 // How deep a row of table 7.8 is, in metres.
@@ -41,7 +40,7 @@ fn tip_row_depth(row: u64) -> u64
 pub fn tip_spot(depth: u64, q: u64) -> Spot
     ensures { (result ≡ spot_of tip_depths 1000 8 5 depth q) × InTable 8 5 result }
 {
-    let read = larger(3000, smaller(depth, 40000));
+    let read = depth.clamp(3000, 40000);
     let row = tip_row(read / 1000);
     let above = tip_row_depth(row) * 1000;
     let below = tip_row_depth(row + 1) * 1000;

@@ -7,14 +7,14 @@ use Rattle.norm_tip_rows.proofs.Rules.{tip_deepens}
 use Rattle.norm_tip_rows.proofs.tip_spot.Goals as goal
 use Rattle.norm_tip_rows.proofs.tip_spot.Goals.{After-tip_row-row}
 
-clamp : (c : After-tip_row-row) → Clamped tip_depths 1000 8 c.args.depth c.larger-read.result
-clamp c = clamped tip_depths 1000 8 tip_deepens _ 3000 40000 _ _ refl refl c.smaller.ensures c.larger-read.ensures
+clamp : (c : After-tip_row-row) → Clamped tip_depths 1000 8 c.args.depth c.clamp-read.result
+clamp c = clamped tip_depths 1000 8 tip_deepens _ 3000 40000 _ refl refl c.clamp-read.ensures
 
-row : (c : After-tip_row-row) → c.tip_row-row.result ≡ row_for tip_depths 1000 8 0 c.larger-read.result
-row c = c.tip_row-row.ensures ∙ sym (by_metre tip_depths 1000 8 0 c.larger-read.result (omega arith))
+row : (c : After-tip_row-row) → c.tip_row-row.result ≡ row_for tip_depths 1000 8 0 c.clamp-read.result
+row c = c.tip_row-row.ensures ∙ sym (by_metre tip_depths 1000 8 0 c.clamp-read.result (omega arith))
 
 -- the depth read stands between that row, one of nine, and the next
-between : (c : After-tip_row-row) → Between tip_depths 1000 0 8 c.larger-read.result c.tip_row-row.result
+between : (c : After-tip_row-row) → Between tip_depths 1000 0 8 c.clamp-read.result c.tip_row-row.result
 between c = let k = clamp c in found tip_depths 1000 8 _ _ k.low k.high (row c)
 
 pub tip_row_depth-above-requires : goal.tip_row_depth-above-requires
