@@ -1,2 +1,0 @@
--- Laws of a number's bytes.
-pub mod ByteLaws
