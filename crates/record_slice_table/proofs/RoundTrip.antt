@@ -14,18 +14,13 @@ use Rattle.rules.specs.Packed.{slice_at, slice_bytes, slices_bytes, table_bytes}
 use Rattle.rules.specs.Reading.{no_slice, read_slice}
 use Rattle.rules.proofs.Basics.{split}
 use Rattle.rules.proofs.WidthLaws.{number_part}
-use Rattle.record_bits.proofs.BitLaws.{number_blank}
+use Rattle.record_bits.proofs.BitLaws.{number_blank, zeros}
 use Rattle.record_slices.proofs.RoundTrip.{slice_there, slice_back}
 use Rattle.record_slice_table.proofs.TableLaws.{filled_long}
 
 -- every slice's numbers fit their bits
 abbrev pub EachFits : List Slice → Type 0
 EachFits cs = (k : ℕ) → k < length cs → Fits slice_widths (slice_fields (get_or cs k no_slice))
-
-zeros : (k i : ℕ) → get_or {A = ℕ} (replicate k 0) i 0 ≡ 0
-zeros zero i = refl
-zeros (suc k) zero = refl
-zeros (suc k) (suc i) = zeros k i
 
 abbrev slice_in : ℕ → Slice
 slice_in w = slice_from (fields_of slice_widths w)

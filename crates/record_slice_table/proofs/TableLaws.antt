@@ -1,25 +1,14 @@
--- The table while it is filled: cleared, then the bytes of the slices, in order, and zeros behind them.
+-- The table while it is filled: the bytes of the slices, in order, and zeros behind them.
 use mathlib.Core.Path.{◌≡◌, refl, sym, ◌∙◌, ap}
 use mathlib.Core.List.{List, [], ◌∷◌, ◌++◌, append_assoc, append-nil}
-use Prim.Native.Nat.{ℕ, suc, ◌+◌, ◌*◌, ◌-◌, ◌<◌, ◌≤◌}
+use Prim.Native.Nat.{ℕ, ◌+◌, ◌*◌, ◌-◌, ◌≤◌}
 use native.Mathlib.Omega.{arith}
-use native.Mathlib.Numerals.{add-one}
-use lib.ListN.{length, drop, get_or, set, replicate, length-append, length-replicate, replicate-append-replicate}
-use lib.Seq.{drop-cons, drop-length, set_at}
+use lib.ListN.{length, drop, replicate, length-append, length-replicate, replicate-append-replicate}
 use Rattle.rules.specs.declared.Slice.{Slice}
 use Rattle.rules.specs.Records.{slice_size}
 use Rattle.rules.specs.Packed.{slice_bytes, slices_bytes, table_bytes}
 use Rattle.base_copies.proofs.CopyLaws.{with, with_behind}
 use Rattle.record_slice_table.specs.Table.{put_at, put_all}
-
--- i bytes of d are cleared
-module _ (d e : List ℕ) (i : ℕ) (q : e ≡ replicate i 0 ++ drop i d) where
-  pub clear_more : i < length d → set e i 0 ≡ replicate (i + 1) 0 ++ drop (i + 1) d
-  clear_more h =
-      rw (q, drop-cons d i 0, set_at (replicate i 0) (get_or d i 0) (drop (suc i) d) 0 i (length-replicate i 0), ← replicate-append-replicate {A = ℕ} i 1 0, append_assoc, add-one)
-
-  pub clear_all : i ≡ length d → e ≡ replicate (length d) 0
-  clear_all h = rw (q, h, drop-length) (append-nil (replicate (length d) 0))
 
 pub slice_long : (c : Slice) → length (slice_bytes c) ≡ slice_size
 unfolding slice_bytes

@@ -10,15 +10,10 @@ use record_slices::slice_bytes;
 use rules::{SLICE_SIZE, Slice};
 
 // Every byte becomes zero.
-#[tactic(auto, using(crate::proofs::TableLaws::clear_more, crate::proofs::TableLaws::clear_all))]
 pub fn clear_table(table: &mut [u8])
     ensures { table.new ≡ replicate (length table.old) 0 }
 {
-    let mut i: usize = 0;
-    while i < table.len() {
-        table[i] = 0;
-        i += 1;
-    }
+    table.fill(0);
 }
 
 // A slice into its place of the table.
@@ -27,6 +22,5 @@ pub fn put_slice(table: &mut [u8], place: usize, c: Slice)
     requires { place * slice_size + slice_size ≤ length table.old }
     ensures { table.new ≡ put_at table.old place c }
 {
-    let packed = slice_bytes(c);
-    copy_in(table, place * SLICE_SIZE, &packed);
+    copy_in(table, place * SLICE_SIZE, &slice_bytes(c));
 }
