@@ -4,16 +4,16 @@ use mathlib.Core.Bool.{false}
 use mathlib.Core.List.{List, [], ◌∷◌, ◌++◌, append_assoc, append-nil}
 use Prim.Native.Nat.{ℕ, ◌+◌, ◌*◌, ◌-◌, ◌<◌, ◌≤◌, min, max}
 use native.Mathlib.Omega.{arith}
-use lib.ListN.{length, take, replicate, length-append}
+use lib.ListN.{length, replicate, length-append}
+use denote.Ref.{Bor}
 use Rattle.rules.specs.declared.Row.{Row}
-use Rattle.rules.specs.declared.Soil.{Soil}
 use Rattle.rules.specs.declared.Pile.{Pile}
 use Rattle.rules.specs.declared.Slice.{Slice}
-use Rattle.rules.specs.Records.{row_size, slice_size}
+use Rattle.rules.specs.Records.{slice_size}
 use Rattle.rules.specs.Limits.{limit_of, places_for}
 use Rattle.rules.specs.Bounds.{weight_bound}
-use Rattle.rules.specs.Packed.{count_of, row_at, rows_of, table_bytes}
-use Rattle.rules.specs.Ground.{depth_of, same, soil_of, soil_at}
+use Rattle.rules.specs.Packed.{rows_of, table_bytes}
+use Rattle.rules.specs.Ground.{depth_of, same, soil_at}
 use Rattle.rules.specs.Pieces.{Piece, pieces_from, pieces, run_top}
 use Rattle.rules.specs.Numbers.{slice_of, slice_each, friction_sum}
 use Rattle.rules.proofs.PassedLaws.{known}
@@ -24,7 +24,9 @@ use Rattle.record_slice_table.proofs.TableLaws.{Filled, filled_none, filled_long
 use Rattle.ground_cuts.specs.declared.Cut.{Cut}
 use Rattle.ground_cuts.specs.Cuts.{slices_in}
 use Rattle.ground_strata.specs.declared.StratumFound.{StratumFound}
-use Rattle.ground_strata.specs.Strata.{Begins, Reaches}
+use Rattle.ground_strata.specs.declared.Stratum.{Stratum}
+use Rattle.ground_strata.specs.declared.Strata.{Strata}
+use Rattle.ground_strata.specs.Strata.{Reaches, Walks, Next, from_ground}
 use Rattle.ground_shaft.specs.declared.Shaft.{Shaft}
 use Rattle.ground_shaft.specs.Shafts.{Ready, cut_of, shaft_of}
 
@@ -46,34 +48,38 @@ left_of rs p b = slice_each p (pieces_from (soil_at rs) (max p.head b) (p.tip - 
 abbrev pub part_of : Pile → ℕ → StratumFound → List Slice
 part_of p top r = slices_in p r.soil (max p.head top) (min p.tip r.bottom)
 
--- every stratum above depth `bottom`, where row `next` begins, is cut; the last of them begins at row `first` and depth `top`
-pub record Doing (log : List ℕ) (p : Pile) (size used sum first top next bottom : ℕ) (bytes : List ℕ) : Type 0 where
+-- every stratum above what is left is cut
+pub record Doing (log : List ℕ) (p : Pile) (size : ℕ) (bytes : List ℕ) (shaft : Shaft) (s : Strata) : Type 0 where
+  pub can : Walks s
+  pub log_is : s.log.now ≡ log
+  pub tip_is : s.tip ≡ p.tip
   pub cut : List Slice
-  pub rest : cut_of (rows_of log) p ≡ cut ++ left_of (rows_of log) p bottom
-  pub table : Filled size cut bytes used
-  pub sums : sum ≡ friction_sum cut
-  pub small : sum ≤ weight_bound * min p.tip bottom
-  pub bottom_is : bottom ≡ depth_of (take next (rows_of log))
-  pub parted : 0 < bottom → bottom ≤ p.tip → same (soil_at (rows_of log) (bottom - 1)) (soil_at (rows_of log) bottom) ≡ false
-  pub row : p.tip < bottom → first < count_of log
-  pub soil : p.tip < bottom → soil_of (row_at log (1 + first * row_size)) ≡ soil_at (rows_of log) p.tip
-  pub top_is : p.tip < bottom → top ≡ run_top (soil_at (rows_of log)) (soil_at (rows_of log) p.tip) p.tip
+  pub rest : cut_of (rows_of log) p ≡ cut ++ left_of (rows_of log) p s.top
+  pub table : Filled size cut bytes shaft.used
+  pub sums : shaft.sum ≡ friction_sum cut
+  pub small : shaft.sum ≤ weight_bound * min p.tip s.top
+  pub parted : 0 < s.top → s.top ≤ p.tip → same (soil_at (rows_of log) (s.top - 1)) (soil_at (rows_of log) s.top) ≡ false
+  pub soil : p.tip < s.top → shaft.soil ≡ soil_at (rows_of log) p.tip
+  pub top_is : p.tip < s.top → shaft.top ≡ run_top (soil_at (rows_of log)) (soil_at (rows_of log) p.tip) p.tip
 
-pub doing_none : (log : List ℕ) (p : Pile) (size : ℕ) (bytes : List ℕ) → bytes ≡ replicate size 0 → Doing log p size 0 0 0 0 0 0 bytes
+pub doing_none : (log : Bor (List ℕ)) (p : Pile) (size : ℕ) (bytes : List ℕ) (shaft : Shaft) (s : Strata) → Ready log.now p size → bytes ≡ replicate size 0
+    → shaft.used ≡ 0 → shaft.sum ≡ 0 → s ≡ from_ground log p.tip → Doing log.now p size bytes shaft s
 unfolding pieces friction_sum depth_of
-doing_none log p size bytes e =
-    let h : max p.head 0 ≡ p.head = omega arith in
+doing_none log p size bytes shaft s a e u z f =
+    let top : s.top ≡ 0 = ap (λ (x : Strata). x.top) f in
+    let h : max p.head s.top ≡ p.head = omega arith in
     record {
+      can = rw f (record { passed = a.passed; deep = a.deep; top_is = refl });
+      log_is = ap (λ (x : Strata). x.log.now) f;
+      tip_is = ap (λ (x : Strata). x.tip) f;
       cut = [];
       rest = rw h refl;
-      table = rw e (filled_none size);
-      sums = refl;
+      table = rw (e, u) (filled_none size);
+      sums = z;
       small = omega arith;
-      bottom_is = refl;
-      parted = λ z l. absurd (omega arith);
-      row = λ z. absurd (omega arith);
-      soil = λ z. absurd (omega arith);
-      top_is = λ z. absurd (omega arith);
+      parted = λ k l. absurd (omega arith);
+      soil = λ k. absurd (omega arith);
+      top_is = λ k. absurd (omega arith);
     }
 
 -- a shaft has no more slices than a table has places
@@ -82,62 +88,77 @@ few {log} {p} a =
     let k = known log a.passed in
     slices_room (rows_of log) p (limit_of log) (omega (arith, k.rows, k.few)) (omega (arith, a.deep)) a.near
 
-module _ {log : List ℕ} {p : Pile} {size : ℕ} (a : Ready log p size) {used sum first top next bottom : ℕ} {bytes : List ℕ} (g : Doing log p size used sum first top next bottom bytes) where
+module _ {log : List ℕ} {p : Pile} {size : ℕ} (a : Ready log p size) {bytes : List ℕ} {shaft : Shaft} {s : Strata} (g : Doing log p size bytes shaft s) where
   pub doing_long : length bytes ≡ size
-  doing_long = filled_long size g.cut bytes used (omega (arith, a.room, few a, ap length g.rest, length-append g.cut (left_of (rows_of log) p bottom), g.table.0)) g.table
+  doing_long = filled_long size g.cut bytes shaft.used (omega (arith, a.room, few a, ap length g.rest, length-append g.cut (left_of (rows_of log) p s.top), g.table.0)) g.table
 
-  -- the next stratum begins where the last was left
-  pub begins : bottom ≤ p.tip → Begins log next bottom p.tip
-  begins h = record { top_is = g.bottom_is; high = h; deep = a.deep }
+  module _ {x : Stratum} {t : Strata} (n : Next s x t) where
+    abbrev found : StratumFound
+    found = record { soil = x.soil; bottom = x.bottom; next = t.next }
 
-  module _ (h : bottom ≤ p.tip) (r : StratumFound) (w : Reaches log next bottom p.tip r) where
+    reaches : Reaches log s.next s.top p.tip found
+    reaches = rw (g.log_is, g.tip_is) at n.reaches
+
+    high : s.top ≤ p.tip
+    high = omega (arith, n.high, g.tip_is)
+
     abbrev part : List Slice
-    part = part_of p bottom r
+    part = part_of p s.top found
 
-    next_is : left_of (rows_of log) p bottom ≡ part ++ left_of (rows_of log) p r.bottom
-    next_is = ap (slice_each p) (stratum_cut (soil_at (rows_of log)) r.soil p.head p.tip bottom r.bottom w.some w.alike (λ l. w.parted (omega arith))) ∙ each_append p _ _
+    next_is : left_of (rows_of log) p s.top ≡ part ++ left_of (rows_of log) p x.bottom
+    next_is = let w = reaches in ap (slice_each p) (stratum_cut (soil_at (rows_of log)) x.soil p.head p.tip s.top x.bottom w.some w.alike (λ l. w.parted (omega arith))) ∙ each_append p _ _
 
-    more : cut_of (rows_of log) p ≡ (g.cut ++ part) ++ left_of (rows_of log) p r.bottom
-    more = g.rest ∙ ap (λ (x : List Slice). g.cut ++ x) next_is ∙ sym (append_assoc g.cut part _)
+    more : cut_of (rows_of log) p ≡ (g.cut ++ part) ++ left_of (rows_of log) p x.bottom
+    more = g.rest ∙ ap (λ (z : List Slice). g.cut ++ z) next_is ∙ sym (append_assoc g.cut part _)
 
-    places : used + length part ≤ places_for (limit_of log)
-    places = omega (arith, few a, ap length more, length-append (g.cut ++ part) (left_of (rows_of log) p r.bottom), length-append g.cut part, g.table.0)
+    places : shaft.used + length part ≤ places_for (limit_of log)
+    places = omega (arith, few a, ap length more, length-append (g.cut ++ part) (left_of (rows_of log) p x.bottom), length-append g.cut part, g.table.0)
 
-    pub room : (used + length part) * slice_size ≤ size
+    room : (shaft.used + length part) * slice_size ≤ size
     room = omega (arith, places, a.room)
 
+    pub doing_room : (from end : ℕ) → from ≡ max p.head x.top → end ≡ min p.tip x.bottom → (shaft.used + length (slices_in p x.soil from end)) * slice_size ≤ length bytes
+    doing_room from end f k = rw (f, n.top_is, k, doing_long) room
+
     -- its part, as it was cut
-    pub doing_more : (from end : ℕ) (q : Cut) (e : List ℕ) → from ≡ max p.head bottom → end ≡ min p.tip r.bottom
-        → (q ≡ record { used = used + length (slices_in p r.soil from end); sum = friction_sum (slices_in p r.soil from end) }) × (q.sum ≤ weight_bound * (end - from))
-        → e ≡ put_all bytes used (slices_in p r.soil from end) → Doing log p size q.used (sum + q.sum) next bottom r.next r.bottom e
-    doing_more from end q e f k y x =
-        let is : slices_in p r.soil from end ≡ part = rw (f, k) in
-        let count : q.used ≡ used + length part = ap (λ (z : Cut). z.used) y.0 ∙ ap (λ (z : List Slice). used + length z) is in
-        let sum_is : q.sum ≡ friction_sum part = ap (λ (z : Cut). z.sum) y.0 ∙ ap friction_sum is in
-        let on : soil_at (rows_of log) bottom ≡ r.soil = w.alike bottom (omega arith) w.some in
-        let last : soil_at (rows_of log) (r.bottom - 1) ≡ r.soil = w.alike (r.bottom - 1) (omega (arith, w.some)) (omega (arith, w.some)) in
+    pub doing_more : (from end : ℕ) (q : Cut) (e : List ℕ) → Walks t → from ≡ max p.head x.top → end ≡ min p.tip x.bottom
+        → (q ≡ record { used = shaft.used + length (slices_in p x.soil from end); sum = friction_sum (slices_in p x.soil from end) }) × (q.sum ≤ weight_bound * (end - from))
+        → e ≡ put_all bytes shaft.used (slices_in p x.soil from end)
+        → Doing log p size e (record { used = q.used; sum = shaft.sum + q.sum; soil = x.soil; top = x.top }) t
+    doing_more from end q e can f k y z =
+        let w = reaches in
+        let is : slices_in p x.soil from end ≡ part = rw (f, k, n.top_is) in
+        let count : q.used ≡ shaft.used + length part = ap (λ (v : Cut). v.used) y.0 ∙ ap (λ (v : List Slice). shaft.used + length v) is in
+        let sum_is : q.sum ≡ friction_sum part = ap (λ (v : Cut). v.sum) y.0 ∙ ap friction_sum is in
+        let on : soil_at (rows_of log) s.top ≡ x.soil = w.alike s.top (omega arith) w.some in
+        let last : soil_at (rows_of log) (x.bottom - 1) ≡ x.soil = w.alike (x.bottom - 1) (omega (arith, w.some)) (omega (arith, w.some)) in
+        let top : t.top ≡ x.bottom = ap (λ (v : Strata). v.top) n.on in
         record {
+          can = can;
+          log_is = ap (λ (v : Strata). v.log.now) n.on ∙ g.log_is;
+          tip_is = ap (λ (v : Strata). v.tip) n.on ∙ g.tip_is;
           cut = g.cut ++ part;
-          rest = more;
-          table = rw (count, x, is) (filled_all size g.cut part bytes used room g.table);
+          rest = more ∙ ap (λ (v : ℕ). (g.cut ++ part) ++ left_of (rows_of log) p v) (sym top);
+          table = rw (count, z, is) (filled_all size g.cut part bytes shaft.used room g.table);
           sums = omega (arith, g.sums, sum_is, sum_append g.cut part);
-          small = omega (arith, g.small, y.1, w.some);
-          bottom_is = w.bottom_is;
-          parted = λ z l. rw last (w.parted l);
-          row = λ z. w.row;
-          soil = λ z. sym w.own ∙ sym (w.alike p.tip h z);
-          top_is = λ z. sym (top_here (soil_at (rows_of log)) p.tip bottom r.bottom h z (λ m j k. w.alike m j k ∙ sym on) (λ o. g.parted o h));
+          small = omega (arith, g.small, y.1, w.some, top, n.top_is);
+          parted = rw top (λ k l. rw last (w.parted l));
+          soil = rw top (λ k. sym (w.alike p.tip high k));
+          top_is = rw top (λ k. n.top_is ∙ sym (top_here (soil_at (rows_of log)) p.tip s.top x.bottom high k (λ m j v. w.alike m j v ∙ sym on) (λ o. g.parted o high)));
         }
 
   -- the tip stands on the last of them
-  module _ (h : p.tip < bottom) where
+  module _ (h : s.tip < s.top) where
+    below : p.tip < s.top
+    below = omega (arith, g.tip_is)
+
     all_cut : cut_of (rows_of log) p ≡ g.cut
     unfolding slice_each
-    all_cut = g.rest ∙ ap (λ (x : List Slice). g.cut ++ x) (ap (slice_each p) (no_pieces (soil_at (rows_of log)) (max p.head bottom) (p.tip - max p.head bottom) (omega arith))) ∙ append-nil g.cut
+    all_cut = g.rest ∙ ap (λ (z : List Slice). g.cut ++ z) (ap (slice_each p) (no_pieces (soil_at (rows_of log)) (max p.head s.top) (p.tip - max p.head s.top) (omega (arith, below)))) ∙ append-nil g.cut
 
-    pub all : (s : Soil) → s ≡ soil_of (row_at log (1 + first * row_size)) → ◌≡◌ {A = Shaft} (record { used = used; sum = sum; soil = s; top = top }) (shaft_of (rows_of log) p)
+    pub all : (shaft ≡ shaft_of (rows_of log) p) × (shaft.sum ≤ weight_bound * p.tip)
     unfolding shaft_of
-    all s e = rw (all_cut, g.sums, ← g.table.0, e ∙ g.soil h, g.top_is h)
+    all = (rw (all_cut, g.sums, ← g.table.0, g.soil below, g.top_is below) refl, omega (arith, g.small, below))
 
     pub all_bytes : bytes ≡ table_bytes size (cut_of (rows_of log) p)
     all_bytes = g.table.1 ∙ ap (table_bytes size) (sym all_cut)
