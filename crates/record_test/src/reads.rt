@@ -40,7 +40,7 @@ pub(crate) fn read_row(rt: &impl Print, s: &[u8], i: u16) -> io::Result<()> {
     print!(rt; "row")?;
     let r = record_rows::read_row(s, i as usize);
     row(rt, r)?;
-    word(rt, record_row_ranges::row_field(r))?;
+    word(rt, record_row_ranges::row_field(r).map_or(0, u32::from))?;
     bytes(rt, &record_row_bytes::row_bytes(r))?;
     Ok(())
 }

@@ -103,7 +103,7 @@ pub(crate) fn bytes(rt: &impl Print, s: &[u8]) -> io::Result<u64> {
     let mut sum: u64 = 0;
     let mut all: u64 = 0;
     for (i, b) in s.iter().enumerate() {
-        let byte = base_order::wide(*b);
+        let byte = u64::from(*b);
         hex(rt, i, byte)?;
         sum = sum.wrapping_add(byte);
         all = all.wrapping_add(sum);
