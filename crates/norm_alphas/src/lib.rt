@@ -3,13 +3,12 @@
 
 ghost use Rattle.std.specs.Prelude.{◌≡◌, ◌+◌, ◌*◌, ◌<◌, ◌≤◌};
 ghost use Rattle.rules.specs.Bounds.{cell_bound};
-ghost use Rattle.rules.specs.SandTips.{sand_lines, sand_cell};
+ghost use Rattle.rules.specs.SandTips.{sand_lines};
 ghost use Rattle.rules.specs.SandTips as rule;
-ghost use Rattle.norm_scales.specs.Scales.{diameter_bound, height_bound, Marked};
+ghost use Rattle.norm_scales.specs.Scales.{Marked};
 
-use base_order::wide_pair;
 use norm_columns::mean;
-use norm_scales::{on_angles, on_diameters, on_ratios};
+use norm_scales::{SandTip, line_at, on_angles, on_diameters, on_ratios};
 use rules::OnScale;
 
 // A line for each coefficient, with a cell for each angle: α1 and α2 in tenths, α3 at ten h/d and α4 at two diameters in hundredths.
@@ -31,75 +30,67 @@ const LINES: [[u16; 9]; 14] = [
 ];
 
 // The lines as they are printed.
-fn lines() -> [[u16; 9]; 14]
-    ensures { result ≡ sand_lines }
-{
-    LINES
+#[derive(Drop)]
+struct SandLines {
+    cells: [[u16; 9]; 14],
+    ghost printed: { cells ≡ sand_lines },
 }
 
-// A cell of the lent lines.
-fn cell(lines: &[[u16; 9]; 14], i: usize, j: usize) -> u64
-    requires { (lines.now ≡ sand_lines) × (i < 14) × (j < 9) }
-    ensures { (result ≡ sand_cell i j) × (result ≤ cell_bound) }
-{
-    wide_pair(lines[i][j])
+fn lines() -> SandLines {
+    SandLines { cells: LINES }
 }
 
-// A line between the two angles around a reading, times their span.
-fn at_angle(lines: &[[u16; 9]; 14], s: OnScale, i: usize) -> u64
-    requires { (lines.now ≡ sand_lines) × Marked 7 s × (i < 14) }
-    ensures { (result ≡ rule.at_angle s i) × (result ≤ s.span * cell_bound) }
-{
-    let j = s.place;
-    mean(s.span, s.past, cell(lines, i, j), cell(lines, i, j + 1))
-}
+impl SandLines {
+    // A line between the two angles around a reading, times their span.
+    fn at_angle(&self, s: OnScale, i: usize) -> u64
+        requires { Marked 7 s × (i < 14) }
+        ensures { (result ≡ rule.at_angle s i) × (result ≤ s.span * cell_bound) }
+    {
+        line_at(&self.cells[i], s)
+    }
 
-// A coefficient of one line, printed in tenths.
-fn of_tenths(lines: &[[u16; 9]; 14], s: OnScale, i: usize) -> u64
-    requires { (lines.now ≡ sand_lines) × Marked 7 s × (i < 14) }
-    ensures { (result ≡ rule.of_tenths s i) × (result ≤ cell_bound * 1000) }
-{
-    at_angle(lines, s, i) * 1000 / s.span
-}
+    // A coefficient of one line, printed in tenths.
+    fn of_tenths(&self, s: OnScale, i: usize) -> u64
+        requires { Marked 7 s × (i < 14) }
+        ensures { (result ≡ rule.of_tenths s i) × (result ≤ cell_bound * 1000) }
+    {
+        self.at_angle(s, i) * 1000 / s.span
+    }
 
-// A coefficient between two lines, printed in hundredths: rounded down once, after both interpolations.
-fn of_hundredths(lines: &[[u16; 9]; 14], s: OnScale, first: usize, m: OnScale) -> u64
-    requires { (lines.now ≡ sand_lines) × Marked 7 s × Marked 8 m × (first + m.place < 13) }
-    ensures { (result ≡ rule.of_hundredths s first m) × (result ≤ cell_bound * 100) }
-{
-    let i = first + m.place;
-    let upper = at_angle(lines, s, i);
-    let lower = at_angle(lines, s, i + 1);
-    mean(m.span, m.past, upper, lower) * 100 / (m.span * s.span)
+    // A coefficient between two lines, printed in hundredths: rounded down once, after both interpolations.
+    fn of_hundredths(&self, s: OnScale, first: usize, m: OnScale) -> u64
+        requires { Marked 7 s × Marked 8 m × (first + m.place < 13) }
+        ensures { (result ≡ rule.of_hundredths s first m) × (result ≤ cell_bound * 100) }
+    {
+        let i = first + m.place;
+        let upper = self.at_angle(s, i);
+        let lower = self.at_angle(s, i + 1);
+        mean(m.span, m.past, upper, lower) * 100 / (m.span * s.span)
+    }
 }
 
 // Each at a reduced angle in thousandths of a degree.
 pub fn alpha_1(t: u64) -> u64
     ensures { (result ≡ rule.alpha1 t) × (result ≤ cell_bound * 1000) }
 {
-    let lines = lines();
-    of_tenths(&lines, on_angles(t), 0)
+    lines().of_tenths(on_angles(t), 0)
 }
 
 pub fn alpha_2(t: u64) -> u64
     ensures { (result ≡ rule.alpha2 t) × (result ≤ cell_bound * 1000) }
 {
-    let lines = lines();
-    of_tenths(&lines, on_angles(t), 1)
+    lines().of_tenths(on_angles(t), 1)
 }
 
-// α3 of a tip h deep, and α4, of a diameter d, in millimetres.
-pub fn alpha_3(t: u64, h: u64, d: u64) -> u64
-    requires { (h ≤ height_bound) × (0 < d) × (d ≤ diameter_bound) }
-    ensures { (result ≡ rule.alpha3 t h d) × (result ≤ cell_bound * 100) }
+// α3 of a tip, and α4 of a pile's diameter in millimetres.
+pub fn alpha_3(t: u64, tip: SandTip) -> u64
+    ensures { (result ≡ rule.alpha3 t tip.height tip.diameter) × (result ≤ cell_bound * 100) }
 {
-    let lines = lines();
-    of_hundredths(&lines, on_angles(t), 2, on_ratios(h, d))
+    lines().of_hundredths(on_angles(t), 2, on_ratios(tip))
 }
 
 pub fn alpha_4(t: u64, d: u64) -> u64
     ensures { (result ≡ rule.alpha4 t d) × (result ≤ cell_bound * 100) }
 {
-    let lines = lines();
-    of_hundredths(&lines, on_angles(t), 12, on_diameters(d))
+    lines().of_hundredths(on_angles(t), 12, on_diameters(d))
 }

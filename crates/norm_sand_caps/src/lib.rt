@@ -2,15 +2,14 @@
 #![tactic(auto)]
 
 ghost use Rattle.std.specs.Prelude.{◌≡◌, ◌-◌, ◌*◌, ◌<◌, ◌≤◌};
-ghost use Rattle.rules.specs.Bounds.{cell_bound, resistance_bound};
-ghost use Rattle.rules.specs.SandTips.{cap_columns, cap_cell};
+ghost use Rattle.rules.specs.Bounds.{resistance_bound};
+ghost use Rattle.rules.specs.SandTips.{cap_columns};
 ghost use Rattle.rules.specs.SandTips as rule;
 ghost use Rattle.norm_scales.specs.Scales.{Marked};
 ghost use Rattle.norm_sand_caps.specs.Columns.{cap_at};
 
-use base_order::wide_pair;
-use norm_columns::{mean, past};
-use norm_scales::on_depths;
+use norm_columns::past;
+use norm_scales::{line_at, on_depths};
 use rules::OnScale;
 
 // A column for each kind of sand, 1 by medium, 2 by fine, 3 by silty: kPa at ten depths.
@@ -21,27 +20,20 @@ const COLUMNS: [[u16; 10]; 3] = [
 ];
 
 // The columns as they are printed.
-fn columns() -> [[u16; 10]; 3]
-    ensures { result ≡ cap_columns }
-{
-    COLUMNS
+#[derive(Drop)]
+struct CapColumns {
+    cells: [[u16; 10]; 3],
+    ghost printed: { cells ≡ cap_columns },
 }
 
-// A cell of the lent columns.
-fn cell(columns: &[[u16; 10]; 3], i: usize, j: usize) -> u64
-    requires { (columns.now ≡ cap_columns) × (i < 3) × (j < 10) }
-    ensures { (result ≡ cap_cell i j) × (result ≤ cell_bound) }
-{
-    wide_pair(columns[i][j])
-}
-
-// A column between the two depths around a reading, in whole Pa.
-fn cap_at(columns: &[[u16; 10]; 3], s: OnScale, i: usize) -> u64
-    requires { (columns.now ≡ cap_columns) × Marked 8 s × (i < 3) }
-    ensures { (result ≡ cap_at s i) × (result ≤ resistance_bound) }
-{
-    let j = s.place;
-    mean(s.span, s.past, cell(columns, i, j), cell(columns, i, j + 1)) * 1000 / s.span
+impl CapColumns {
+    // A column between the two depths around a reading, in whole Pa.
+    fn cap_at(&self, s: OnScale, i: usize) -> u64
+        requires { Marked 8 s × (i < 3) }
+        ensures { (result ≡ cap_at s i) × (result ≤ resistance_bound) }
+    {
+        line_at(&self.cells[i], s) * 1000 / s.span
+    }
 }
 
 // For a kind of sand, at a depth in millimetres.
@@ -49,6 +41,6 @@ pub fn sand_cap(kind: u8, depth: u64) -> u64
     requires { kind ≤ 3 }
     ensures { (result ≡ rule.sand_cap kind depth) × (result ≤ resistance_bound) }
 {
-    let columns = columns();
-    cap_at(&columns, on_depths(depth), past(1, kind) as usize)
+    let columns = CapColumns { cells: COLUMNS };
+    columns.cap_at(on_depths(depth), past(1, kind) as usize)
 }

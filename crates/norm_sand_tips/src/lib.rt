@@ -7,9 +7,9 @@ ghost use Rattle.rules.specs.SandTips as rule;
 ghost use Rattle.norm_scales.specs.Scales.{diameter_bound, height_bound};
 ghost use Rattle.norm_sand_tips.specs.Terms.{unit_weight_bound, overburden_bound, width_bound, depth_bound, Weighs};
 
-use base_order::smaller;
 use norm_alphas::{alpha_1, alpha_2, alpha_3, alpha_4};
 use norm_sand_caps::sand_cap;
+use norm_scales::SandTip;
 use rules::SandNumbers;
 
 // α1 γ'1 d in whole Pa, of ten-thousandths, N/m³ and mm.
@@ -46,23 +46,27 @@ fn of_bracket(a: u64, bracket: u64) -> u64
     75 * a * bracket / 1000000
 }
 
-// The formula, of a tip h deep and a diameter d in millimetres.
-fn formula(base: SandNumbers, h: u64, d: u64) -> u64
-    requires { Weighs base × (h ≤ height_bound) × (0 < d) × (d ≤ diameter_bound) }
-    ensures { result ≡ rule.sand_formula base h d }
+// The formula, of a tip.
+fn formula(base: SandNumbers, tip: SandTip) -> u64
+    requires { Weighs base }
+    ensures { result ≡ rule.sand_formula base tip.height tip.diameter }
 {
-    let t = base.angle as u64 * 9;
-    let width = width_term(alpha_1(t), base.below as u64, d);
-    let over = overburden(base.above as u64, h);
-    let depth = depth_term(alpha_2(t), alpha_3(t, h, d), over);
-    of_bracket(alpha_4(t, d), width + depth)
+    let t = u64::from(base.angle) * 9;
+    let width = width_term(alpha_1(t), u64::from(base.below), tip.diameter);
+    let over = overburden(u64::from(base.above), tip.height);
+    let depth = depth_term(alpha_2(t), alpha_3(t, tip), over);
+    of_bracket(alpha_4(t, tip.diameter), width + depth)
 }
 
-// R for a kind of sand, at most the cap at this depth as read.
+// R of a tip h deep and a diameter d in millimetres, for a kind of sand: at most the cap at this depth as read.
 #[tactic(auto, unfolding(rules::specs::SandTips::sand_resistance))]
 pub fn sand_resistance(base: SandNumbers, h: u64, d: u64, kind: u8, depth: u64) -> u64
     requires { Weighs base × (h ≤ height_bound) × (0 < d) × (d ≤ diameter_bound) × (kind ≤ 3) }
     ensures { (result ≡ rule.sand_resistance base h d kind depth) × (result ≤ resistance_bound) }
 {
-    smaller(formula(base, h, d), sand_cap(kind, depth))
+    let tip = SandTip {
+        height: h,
+        diameter: d,
+    };
+    formula(base, tip).min(sand_cap(kind, depth))
 }

@@ -44,13 +44,13 @@ module _ (marks : List ℕ) (m a b k : ℕ) (h : a ≤ k) (l : k < b) where
 
 -- the rules for places, of whatever numbers
 abbrev pub less_shared : ℕ → ℕ → ℕ → ℕ → ℕ
-less_shared most less by i = min most ((i - less) / by)
+less_shared most less by i = min ((i - less) / by) most
 
 abbrev pub shared_less : ℕ → ℕ → ℕ → ℕ → ℕ
-shared_less most by less i = min most (i / by - less)
+shared_less most by less i = min (i / by - less) most
 
 abbrev pub shared_more : ℕ → ℕ → ℕ → ℕ
 shared_more by more i = i / by + more
 
 abbrev pub most_shared : ℕ → ℕ → ℕ → ℕ → ℕ
-most_shared most by more i = min most (i / by + more)
+most_shared most by more i = min (i / by + more) most

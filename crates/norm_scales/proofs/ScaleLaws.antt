@@ -1,64 +1,97 @@
 -- Where a reading stands on a printed scale, by the step of its whole units.
-use mathlib.Core.Path.{◌≡◌, sym, ◌∙◌, subst}
+use mathlib.Core.Path.{◌≡◌, sym, ◌∙◌, ap, subst}
+use mathlib.Core.Bool.{Bool, true}
 use mathlib.Core.List.{List}
-use Prim.Native.Nat.{ℕ, ◌+◌, ◌*◌, ◌-◌, ◌/◌, ◌<◌, ◌≤◌}
-use native.Mathlib.Nat.{mul-le-mul}
+use Prim.Native.Nat.{ℕ, ◌+◌, ◌*◌, ◌-◌, ◌/◌, ◌<◌, ◌≤◌, min, max}
+use native.Mathlib.Nat.{mul-le-mul_left, mul-le-mul_right, mul_comm, le-div_iff_mul-le, div-le_of_le-mul}
 use native.Mathlib.Omega.{arith}
-use lib.Dec.{T, ltb, leb, leb→le}
+use lib.Dec.{T, eqb, eqb→eq, ltb, leb, leb→le}
 use lib.ListN.{length, get_or}
 use Rattle.rules.specs.declared.OnScale.{OnScale}
 use Rattle.rules.specs.Tables.{row_for, spot_of}
-use Rattle.rules.specs.SandTips.{angles, ratios, diameters, cap_depths, on_scale}
-use Rattle.rules.proofs.TableLaws.{every, at}
-use Rattle.norm_spots.specs.Spots.{Deepens, Clamped, Between, InTable}
-use Rattle.norm_spots.proofs.Rows.{deepens, by_metre, found, in_table}
+use Rattle.rules.specs.SandTips.{on_scale}
+use Rattle.rules.proofs.TableLaws.{every, at, both_left, both_right}
+use Rattle.norm_spots.specs.Spots.{span_bound, Deepens, Clamped, Between, InTable}
+use Rattle.norm_spots.proofs.Rows.{by_metre, clamped, found, in_table}
 use Rattle.norm_scales.specs.declared.Step.{Step}
-use Rattle.norm_scales.specs.Scales.{diameter_bound, step_of, Marked}
+use Rattle.norm_scales.specs.Scales.{step_of, Marked, mark_bound, is_scale}
 
-pub angles_rise : Deepens angles 1000 7
-angles_rise = deepens angles 1000 7 tt tt (omega arith) (omega arith)
+-- marks that rise from the first to the last, by steps that stay within bounds in the finest parts
+record Scale (first last finest : ℕ) (marks : List ℕ) : Type 0 where
+  begins : get_or marks 0 0 ≡ first
+  ends : get_or marks (length marks - 2 + 1) 0 ≡ last
+  whole : first ≤ last
+  most : last * finest ≤ mark_bound
+  rises : (i : ℕ) → i ≤ length marks - 2 → get_or marks i 0 < get_or marks (i + 1) 0
+  apart : (i : ℕ) → i ≤ length marks - 2 → (get_or marks (i + 1) 0 - get_or marks i 0) * finest ≤ span_bound
 
-pub diameters_rise : Deepens diameters 1 0
-diameters_rise = deepens diameters 1 0 tt tt (omega arith) (omega arith)
+-- by the computed test
+scale : (first last finest : ℕ) (marks : List ℕ) → is_scale first last finest marks ≡ true → Scale first last finest marks
+scale first last finest marks e =
+    let m : ℕ = length marks - 2 in
+    let rise : ℕ → Bool = λ k. ltb (get_or marks k 0) (get_or marks (k + 1) 0) in
+    let near : ℕ → Bool = λ k. leb ((get_or marks (k + 1) 0 - get_or marks k 0) * finest) span_bound in
+    let t : T (is_scale first last finest marks) = subst T (sym e) tt in
+    let t₁ = both_right (eqb (get_or marks 0 0) first) _ t in
+    let t₂ = both_right (eqb (get_or marks (m + 1) 0) last) _ t₁ in
+    let t₃ = both_right (leb first last) _ t₂ in
+    let t₄ = both_right (leb (last * finest) mark_bound) _ t₃ in
+    record {
+      begins = eqb→eq _ _ (both_left (eqb (get_or marks 0 0) first) _ t);
+      ends = eqb→eq _ _ (both_left (eqb (get_or marks (m + 1) 0) last) _ t₁);
+      whole = leb→le _ _ (both_left (leb first last) _ t₂);
+      most = leb→le _ _ (both_left (leb (last * finest) mark_bound) _ t₃);
+      rises = λ i k. leb→le _ _ (at (m + 1) rise (both_left (every (m + 1) rise) (every (m + 1) near) t₄) i (omega arith));
+      apart = λ i k. leb→le _ _ (at (m + 1) near (both_right (every (m + 1) rise) (every (m + 1) near) t₄) i (omega arith));
+    }
 
-pub depths_rise : Deepens cap_depths 1000 8
-depths_rise = deepens cap_depths 1000 8 tt tt (omega arith) (omega arith)
+module _ (first last finest : ℕ) (marks : List ℕ) (test : is_scale first last finest marks ≡ true) (unit : ℕ) (p : 0 < unit) (h : unit ≤ finest) where
+  s : Scale first last finest marks
+  s = scale first last finest marks test
 
--- no two marks of h/d are more than five halves apart
-pub ratios_rise : (d : ℕ) → 0 < d → d ≤ diameter_bound → Deepens ratios d 8
-ratios_rise d p h = record {
-  step = λ i k. leb→le _ _ (at 9 (λ j. ltb (get_or ratios j 0) (get_or ratios (j + 1) 0)) tt i (omega arith));
-  parts = λ i k.
-      let apart = leb→le (get_or ratios (i + 1) 0 - get_or ratios i 0) 5 (at 9 (λ j. leb (get_or ratios (j + 1) 0 - get_or ratios j 0) 5) tt i (omega arith)) in
-      omega (arith, mul-le-mul apart h);
-  whole = omega arith;
-  some = p;
-}
+  rise : Deepens marks unit (length marks - 2)
+  rise = record {
+    step = s.rises;
+    parts = λ i k. omega (arith, mul-le-mul_left (get_or marks (i + 1) 0 - get_or marks i 0) h, s.apart i k);
+    whole = omega (arith, s.begins, s.ends, s.whole);
+    some = p;
+  }
 
--- no mark of a scale is larger
-pub largest : (marks : List ℕ) (n most : ℕ) → T (every n (λ j. leb (get_or marks j 0) most)) → (i : ℕ) → i < n → get_or marks i 0 ≤ most
-largest marks n most t i h = leb→le _ _ (at n (λ j. leb (get_or marks j 0) most) t i h)
+  -- the first mark and the last in parts
+  pub within : (first * unit ≤ last * unit) × (last * unit ≤ mark_bound)
+  within = let r = mul-le-mul_left last h in (mul-le-mul_right unit s.whole, omega (arith, r, s.most))
 
-module _ (marks : List ℕ) (unit m n : ℕ) (t : Deepens marks unit m) (e : length marks - 2 ≡ m) where
-  stands : Marked m (on_scale marks unit n)
+  stands : (n : ℕ) → Marked (length marks - 2) (on_scale marks unit n)
   unfolding on_scale
-  stands =
-      let s : InTable m 0 (spot_of marks unit m 0 n 0) = in_table marks unit m t 0 n 0 in
-      rw e (record { place = s.row; past = s.weights.down; some = s.weights.some; span = s.weights.span })
+  stands n =
+      let t : InTable (length marks - 2) 0 (spot_of marks unit (length marks - 2) 0 n 0) = in_table marks unit (length marks - 2) rise 0 n 0 in
+      record { place = t.row; past = t.weights.down; some = t.weights.some; span = t.weights.span }
 
-  -- the step of a reading's whole units has its marks around it
-  module _ (read : ℕ) (c : Clamped marks unit m n read) (s : Step) (p : s ≡ step_of marks m (read / unit)) where
-    around : Between marks unit 0 m read (row_for marks 1 m 0 (read / unit))
-    around = found marks unit m read _ c.low c.high (sym (by_metre marks unit m 0 read t.some))
+  -- low and high: the first mark and the last, as a program has them
+  module _ (n read low high : ℕ) (a : low ≡ first) (b : high ≡ last) (e : read ≡ max (low * unit) (min n (high * unit))) where
+    clamp : Clamped marks unit (length marks - 2) n read
+    clamp = clamped marks unit (length marks - 2) rise n _ _ read (ap (λ (x : ℕ). x * unit) (a ∙ sym s.begins)) (ap (λ (x : ℕ). x * unit) (b ∙ sym s.ends)) e
 
-    pub fits : T (every (m + 2) (λ j. leb (get_or marks j 0) 50)) → m < 15 → (s.mark * unit ≤ read) × (s.mark ≤ s.next) × (s.next ≤ 50) × (s.place < 16)
-    fits most few =
-        let i = row_for marks 1 m 0 (read / unit) in
-        let last : i ≤ m = omega (arith, around.last) in
-        rw p (around.low, omega (arith, t.step i last), largest marks (m + 2) 50 most (i + 1) (omega (arith, last)), omega (arith, last, few))
+    -- its whole units have a step
+    pub whole_units : (first ≤ read / unit) × (read / unit ≤ last)
+    whole_units =
+        let above : first * unit ≤ read = rw s.begins at clamp.low in
+        let below : read ≤ last * unit = rw s.ends at clamp.high in
+        (omega (arith, (le-div_iff_mul-le p).1 above), div-le_of_le-mul unit (rw (mul_comm last unit) at below))
 
-    pub standing : (r : OnScale) → r ≡ record { place = s.place; past = read - s.mark * unit; span = (s.next - s.mark) * unit } → (r ≡ on_scale marks unit n) × Marked m r
-    unfolding on_scale spot_of
-    standing r q =
-        let is : r ≡ on_scale marks unit n = q ∙ rw (p, ← by_metre marks unit m 0 read t.some, c.is, e) in
-        (is, subst (Marked m) (sym is) stands)
+    -- and that step has its marks around the reading
+    module _ (t : Step) (q : t ≡ step_of marks (length marks - 2) (read / unit)) where
+      around : Between marks unit 0 (length marks - 2) read (row_for marks 1 (length marks - 2) 0 (read / unit))
+      around = found marks unit (length marks - 2) read _ clamp.low clamp.high (sym (by_metre marks unit (length marks - 2) 0 read p))
+
+      pub fits : (t.mark * unit ≤ read) × (t.mark ≤ t.next) × ((t.next - t.mark) * unit ≤ span_bound)
+      fits =
+          let i = row_for marks 1 (length marks - 2) 0 (read / unit) in
+          let below : i ≤ length marks - 2 = omega (arith, around.last) in
+          rw q (around.low, omega (arith, s.rises i below), rise.parts i below)
+
+      pub standing : (r : OnScale) → r ≡ record { place = t.place; past = read - t.mark * unit; span = (t.next - t.mark) * unit } → (r ≡ on_scale marks unit n) × Marked (length marks - 2) r
+      unfolding on_scale spot_of
+      standing r f =
+          let is : r ≡ on_scale marks unit n = f ∙ rw (q, ← by_metre marks unit (length marks - 2) 0 read p, clamp.is) in
+          (is, subst (Marked (length marks - 2)) (sym is) (stands n))

@@ -1,9 +1,9 @@
 -- Each branch is one computed test over its metres.
-use Rattle.std.proofs.Common.{refl}
+use Rattle.std.proofs.Common.{refl, arith}
 use Rattle.rules.specs.Tables.{row_for}
 use Rattle.rules.specs.SandTips.{cap_depths}
 use Rattle.norm_scales.proofs.Rules.{counted, rising, falling, shared_more, most_shared}
-use Rattle.norm_scales.proofs.cap_step.Goals as goal
+use Rattle.norm_scales.proofs.CapDepthsScale.step.Goals as goal
 
 pub returns-then-metre-lt5 : goal.returns-then-metre-lt5
 unfolding row_for
@@ -15,4 +15,4 @@ returns-then-metre-lt10 c = rising cap_depths 8 _ _ _ c.if-metre-lt5.false c.if-
 
 pub returns : goal.returns
 unfolding row_for
-returns c = falling cap_depths 8 _ _ _ c.if-metre-lt10.false c.requires.1 (most_shared _ _ _) _ _ _ _ _ c.smaller-place.ensures tt
+returns c = falling cap_depths 8 10 36 _ c.if-metre-lt10.false (omega arith) (most_shared _ _ _) _ _ _ _ _ c.min-place.ensures tt

@@ -1,7 +1,7 @@
 -- Two lines at the angle, weighed; the one division comes last.
 use Rattle.norm_columns.proofs.Means.{weighed_most}
 use Rattle.norm_alphas.proofs.LineLaws.{hundredths_are}
-use Rattle.norm_alphas.proofs.of_hundredths.Goals as goal
+use Rattle.norm_alphas.proofs.SandLines.of_hundredths.Goals as goal
 
 pub returns : goal.returns
 returns c =

@@ -1,8 +1,9 @@
 -- Each branch is one computed test over its halves.
+use Rattle.std.proofs.Common.{arith}
 use Rattle.rules.specs.Tables.{row_for}
 use Rattle.rules.specs.SandTips.{ratios}
 use Rattle.norm_scales.proofs.Rules.{fixed, rising, shared_less}
-use Rattle.norm_scales.proofs.ratio_step.Goals as goal
+use Rattle.norm_scales.proofs.RatiosScale.step.Goals as goal
 
 pub returns-then-halves-lt10 : goal.returns-then-halves-lt10
 unfolding row_for
@@ -10,4 +11,4 @@ returns-then-halves-lt10 c = fixed ratios 8 _ _ _ c.requires.0 c.if-halves-lt10.
 
 pub returns : goal.returns
 unfolding row_for
-returns c = rising ratios 8 _ _ _ c.if-halves-lt10.false c.requires.1 (shared_less _ _ _) _ _ _ _ _ c.smaller-place.ensures tt
+returns c = rising ratios 8 10 51 _ c.if-halves-lt10.false (omega arith) (shared_less _ _ _) _ _ _ _ _ c.min-place.ensures tt
