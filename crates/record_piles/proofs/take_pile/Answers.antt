@@ -1,5 +1,5 @@
 -- Seven fields taken one after the other from the whole of a word, the word cut by their widths; and behind them the grade.
-use Rattle.std.proofs.Common.{refl, ap, sym, ◌∙◌, List, [], ◌∷◌, ◌++◌, ℕ, ◌+◌, arith}
+use Rattle.std.proofs.Common.{ap, sym, ◌∙◌, List, [], ◌∷◌, ◌++◌, ℕ, ◌+◌, arith}
 use mathlib.Core.Path.{ap₂}
 use native.Mathlib.Nat.{div-one}
 use Rattle.rules.specs.Records.{plain_size, pile_from}
@@ -12,9 +12,10 @@ pub returns : goal.returns
 unfolding pile_of
 returns c =
     let s = c.args.s.now in
+    let start = c.over-fields.ensures in
     ap pile_from
     (ap₂ (λ (l : List ℕ) (g : ℕ). l ++ (g ∷ []))
-    (fields_taken 0 (c.take_bits-section.ensures then c.take_bits-a.ensures then c.take_bits-b.ensures then c.take_bits-method.ensures then c.take_bits-head.ensures then c.take_bits-tip.ensures then c.take_bits-zero.ensures then end)
-    refl (div-one _ ∙ c.word_of.ensures))
-    c.take_grade-grade.ensures
+    (fields_taken 0 (c.take.ensures then c.take-2.ensures then c.take-3.ensures then c.take-4.ensures then c.take-5.ensures then c.take-6.ensures then c.take-7.ensures then end)
+    start.1 (div-one _ ∙ start.0 ∙ c.number_of.ensures))
+    c.take_grade.ensures
     ∙ sym (fields_graded s (omega (arith, c.type_inv.s plain_size)) (omega (arith, c.type_inv.s (plain_size + 1)))))
