@@ -1,21 +1,21 @@
 -- Packing a log: its checks row by row, and its bytes place by place.
 use mathlib.Core.Path.{◌≡◌, refl, sym, ◌∙◌}
 use mathlib.Core.Bool.{Bool, true, false}
-use mathlib.Core.List.{List, [], ◌∷◌, ◌++◌, append-nil, map}
+use mathlib.Core.List.{List, [], ◌∷◌, ◌++◌, append-nil}
 use Prim.Native.Nat.{ℕ, ◌+◌, ◌*◌, ◌<◌, ◌≤◌}
 use native.Mathlib.Numerals.{add-one}
 use native.Mathlib.Omega.{arith}
-use lib.ListN.{length, get_or, take, drop, set, length-drop, length-append, length-map, drop_of_length-le, take-append-drop}
+use lib.ListN.{length, get_or, take, drop, set, length-drop, length-append, drop_of_length-le, take-append-drop}
 use lib.Seq.{take_all, drop-cons, get_or-drop, drop-drop}
 use Rattle.rules.specs.declared.Row.{Row}
 use Rattle.rules.specs.declared.Log.{Log}
 use Rattle.rules.specs.declared.Refusal.{Refusal}
-use Rattle.rules.specs.Base.{both, nothing, refuse, first, when}
+use Rattle.rules.specs.Base.{both, nothing}
 use Rattle.rules.specs.Records.{row_size}
 use Rattle.rules.specs.Limits.{row_limit, log_size}
 use Rattle.rules.specs.Packed.{no_row, row_bytes, places_bytes, log_bytes}
-use Rattle.rules.specs.Checks.{count_wrong, wrong_field, first_wrong}
-use Rattle.rules.specs.Reading.{row_zero, rows_zero, unused_fields}
+use Rattle.rules.specs.Checks.{wrong_field, first_wrong}
+use Rattle.rules.specs.Reading.{row_zero, rows_zero}
 use Rattle.rules.proofs.PlacesLaws.{row_long, places_length, places_take, places_drop}
 use Rattle.rules.specs.declared.faults.RowField.{RowField}
 use Rattle.rules.specs.Faults.{row_field_number}
@@ -23,10 +23,6 @@ use Rattle.record_log_checks.proofs.RowsLaws.{wrong_here, wrong_below}
 use Rattle.std.proofs.Common.{◌&&◌}
 use Rattle.std.specs.List.{list_all}
 use Rattle.base_copies.proofs.CopyLaws.{with, with_behind}
-
--- The length that a log's relation gives of its places, each as a tuple, is that of the places.
-pub places : {B : Type 0} (rs : List Row) (f : Row → B) → length (map f rs) ≡ row_limit → length rs ≡ row_limit
-places rs f e = sym (length-map rs f) ∙ e
 
 -- rows that are all zero
 pub rows_zero_all : (rs : List Row) → list_all row_zero rs ≡ rows_zero rs
@@ -38,15 +34,9 @@ rows_zero_all (r ∷ rs) = go (row_zero r) (list_all row_zero rs) (rows_zero rs)
     go true a b e = e
     go false a b e = refl
 
--- checks 2 and 3 of fields whose count is right
-module _ (limit : ℕ) (l : Log) (long : length l.rows ≤ row_limit) (h : count_wrong limit l.count ≡ false) where
-  pub unused_refused : rows_zero (drop l.count l.rows) ≡ false → refuse 2 ≡ first (when (unused_fields limit l) 2) (first_wrong 1 (take l.count l.rows))
-  unfolding unused_fields first when
-  unused_refused g = rw (h, take_all row_limit l.rows long, g)
-
-  pub unused_passed : rows_zero (drop l.count l.rows) ≡ true → first_wrong 1 (take l.count l.rows) ≡ first (when (unused_fields limit l) 2) (first_wrong 1 (take l.count l.rows))
-  unfolding unused_fields first when
-  unused_passed g = rw (h, take_all row_limit l.rows long, g)
+-- no log has more rows than the longest form has places
+pub all_places : (rs : List Row) → length rs ≤ row_limit → take row_limit rs ≡ rs
+all_places rs long = take_all row_limit rs long
 
 -- the rows before row i are right: the others refuse as all do
 abbrev pub Checked : List Row → ℕ → Type 0

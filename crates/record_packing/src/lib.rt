@@ -38,7 +38,7 @@ fn rows_refusal(rows: &[Row]) -> Result<(), Fault>
 }
 
 // Checks 2 and 3 of fields that are packed.
-#[tactic(auto, unfolding(rules::specs::Reading::unused_fields, rules::specs::Base::first, rules::specs::Base::when))]
+#[tactic(auto, using(crate::proofs::PackLaws::all_places), unfolding(rules::specs::Reading::unused_fields, rules::specs::Base::first, rules::specs::Base::when))]
 fn log_refusal(log: &Log, limit: usize) -> Result<(), Fault>
     requires { limit ≤ row_limit }
     ensures { refusal_in result ≡ first (when (unused_fields limit log.now) 2) (first_wrong 1 (take log.now.count log.now.rows)) }
