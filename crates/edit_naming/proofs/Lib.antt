@@ -1,2 +1,2 @@
--- Laws that the proofs of the functions cite.
+-- A law that a proof cites.
 pub mod NamingLaws

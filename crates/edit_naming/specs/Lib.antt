@@ -1,0 +1,2 @@
+-- Definitions beside the rules.
+pub mod Asked
