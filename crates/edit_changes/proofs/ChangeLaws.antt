@@ -57,15 +57,15 @@ module _ (kind k x : ℕ) (row l : List ℕ) (past : Passed l × (refuses (chang
       let s : k - 1 + 0 ≤ length (rows_of l) = rw e at ready.span in
       ((some, omega (arith, more (rw e), q.long)), omega (arith, more (rw e), q.rows, limit_most l))
 
-  -- an edit that stands and is none of the three is a split
-  pub is_split : (kind ≡ 1 → ⊥) → (kind ≡ 2 → ⊥) → (kind ≡ 3 → ⊥) → kind ≡ 4
-  is_split a b d = go it
+  -- an edit that stands is of one of the four kinds
+  pub some_kind : kind ≡ 0 → ⊥
+  some_kind z = go it
     where
-      go : Standing kind k x (rows_of l) → kind ≡ 4
-      go (replaces e _ _) = absurd (a e)
-      go (inserts e _ _) = absurd (b e)
-      go (removes e _ _ _) = absurd (d e)
-      go (splits e _ _ _ _) = e
+      go : Standing kind k x (rows_of l) → ⊥
+      go (replaces e _ _) = omega arith
+      go (inserts e _ _) = omega arith
+      go (removes e _ _ _) = omega arith
+      go (splits e _ _ _ _) = omega arith
 
   pub place_two : kind ≡ 4
       → ((1 ≤ k) × (k ≤ count_of l) × (1 + (count_of l + 1) * row_size ≤ length l)) × ((count_of l < 255) × (x < (row_named (rows_of l) k).thickness) × (x ≤ thickness_limit))

@@ -6,12 +6,14 @@ ghost use Rattle.rules.specs.Base.{refuses};
 ghost use Rattle.rules.specs.Records.{row_size};
 ghost use Rattle.rules.specs.Limits.{thickness_limit};
 ghost use Rattle.rules.specs.Packed.{count_of, rows_of};
-ghost use Rattle.rules.specs.Edits.{asked, brings, row_named, edited_log};
+ghost use Rattle.rules.specs.Edits.{brings, row_named, edited_log};
 ghost use Rattle.rules.specs.Checks.{Passed};
 ghost use Rattle.rules.proofs.Groups.{change_checks};
 ghost use Rattle.rules.specs.Edits as rule;
+ghost use Rattle.edit_naming.specs.Asked.{edit_of, number_of};
 ghost use Rattle.edit_changes.specs.Split.{split_log};
 
+use edit_naming::{Edit, EditKind};
 use rules::{ROW_SIZE, Row};
 
 // The bytes of the row that was brought.
@@ -19,22 +21,16 @@ fn brought(row: &[u8]) -> [u8; ROW_SIZE]
     requires { length row.now ≡ row_size }
     ensures { result ≡ row.now }
 {
-    let mut new = [0u8; ROW_SIZE];
-    base_copies::copy_in(&mut new, 0, &row[..ROW_SIZE]);
+    let mut new = [0; ROW_SIZE];
+    new.copy_from_slice(row);
     new
 }
 
 // As much of the row's soil as is said.
-fn part(thickness: u16, r: Row) -> Row
-    ensures { result ≡ rule.part thickness r }
+fn part(thickness: u16, row: Row) -> Row
+    ensures { result ≡ rule.part thickness row }
 {
-    Row {
-        thickness: thickness,
-        kind: r.kind,
-        index: r.index,
-        saturation: r.saturation,
-        zero: r.zero,
-    }
+    Row { thickness, ..row }
 }
 
 fn split(log: &mut [u8], k: u32, x: u32)
@@ -49,15 +45,19 @@ fn split(log: &mut [u8], k: u32, x: u32)
 }
 
 // Replace, insert, remove or split.
-pub fn change(log: &mut [u8], kind: u32, k: u32, x: u32, row: &[u8])
-    requires passed { Passed log.old × (refuses (change_checks (asked kind k x row.now) log.old) ≡ false) }
-    requires brought { brings kind ≡ true → length row.now ≡ row_size }
-    ensures { log.new ≡ edited_log (asked kind k x row.now) log.old }
+pub fn change(log: &mut [u8], edit: Edit<'_>)
+    requires passed { Passed log.old × (refuses (change_checks (edit_of edit) log.old) ≡ false) }
+    requires brought { brings (number_of edit.kind) ≡ true → length edit.row.now ≡ row_size }
+    ensures { log.new ≡ edited_log (edit_of edit.entry) log.old }
 {
+    let Some(kind) = edit.kind else {
+        unreachable!()
+    };
+    let k = edit.k as usize;
     match kind {
-        1 => edit_moves::replace_row(log, k as usize, brought(row)),
-        2 => edit_moves::insert_row(log, k as usize, brought(row)),
-        3 => edit_moves::remove_row(log, k as usize),
-        _ => split(log, k, x),
+        EditKind::Replace => edit_moves::replace_row(log, k, brought(edit.row)),
+        EditKind::Insert => edit_moves::insert_row(log, k, brought(edit.row)),
+        EditKind::Remove => edit_moves::remove_row(log, k),
+        EditKind::Split => split(log, edit.k, edit.x),
     }
 }
