@@ -59,7 +59,7 @@ pub struct Stratum {
 }
 
 // What is left of a log's strata, from the ground down to the one that the tip stands on: the next one's first row and its top.
-#[derive(Clone, Copy)]
+#[derive(Drop)]
 pub struct Strata<'a> {
     log: &'a [u8],
     tip: u64,
