@@ -134,7 +134,7 @@ pub struct Answer {
 }
 
 // What makes two millimetres one stratum.
-#[derive(Clone, Copy, PartialEq, Eq)]
+#[derive(Clone, Copy, Default, PartialEq, Eq)]
 pub struct Soil {
     pub kind: u8,
     pub index: u8,
