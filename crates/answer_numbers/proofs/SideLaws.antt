@@ -35,9 +35,9 @@ unfolding pile_checks section_check
 sides p e = part_sides p (not_picked (wrong_pile_field p) _ nothing refl (first_off (section_check p) (when (method_wrong p) 6) e).0).0
 
 -- a number of at most m, times the sides
-module _ {p : Pile} {n m : ℕ} (h : Sides p × (n ≤ m)) where
+module _ {p : Pile} {n m : ℕ} (s : Sides p) (h : n ≤ m) where
   pub circle : p.section ≡ 1 → (n * p.a ≤ m * 2000) × (n * p.a * p.a ≤ m * 2000 * 2000)
-  circle s = let one = mul-le-mul h.1 (h.0.round s) in (one, mul-le-mul one (h.0.round s))
+  circle e = let one = mul-le-mul h (s.round e) in (one, mul-le-mul one (s.round e))
 
   pub rectangle : (n * p.a ≤ m * 4000) × (n * p.a * p.b ≤ m * 4000 * 4000) × (n * (p.a + p.b) ≤ m * (4000 + 4000))
-  rectangle = let one = mul-le-mul h.1 h.0.a in (one, mul-le-mul one h.0.b, mul-le-mul h.1 (add-le-add h.0.a h.0.b))
+  rectangle = let one = mul-le-mul h s.a in (one, mul-le-mul one s.b, mul-le-mul h (add-le-add s.a s.b))
