@@ -3,24 +3,23 @@
 // Nothing counts the slices: a table has places for every shaft of a pile that passes checks 7 and 8.
 #![tactic(auto)]
 
-ghost use Rattle.std.specs.Prelude.{◌≡◌, false, ◌≤◌, length, replicate};
-ghost use Rattle.rules.specs.Base as base;
+ghost use Rattle.std.specs.Prelude.{◌≡◌, ◌≤◌, length, IfOk};
 ghost use Rattle.rules.specs.Limits.{limit_of, table_size};
 ghost use Rattle.rules.specs.Packed.{rows_of, pile_of, table_bytes};
-ghost use Rattle.rules.specs.Ground.{depth_of};
-ghost use Rattle.rules.specs.Checks.{Passed};
+ghost use Rattle.rules.specs.Ground.{depth_of, soil_at};
+ghost use Rattle.rules.specs.Checks.{Passed, ground_checks};
+ghost use Rattle.rules.specs.Faults.{refusal_in};
 ghost use Rattle.rules.specs.Calculation.{answer_of, held_slices_of, fresh_answer};
-ghost use Rattle.rules.proofs.Groups.{early};
-ghost use Rattle.rules.specs.Answers as answers;
+ghost use Rattle.answer_work.specs.Outcomes.{answer_in, used_in};
 
-use answer_checks::depth_refusal;
-use answer_numbers::{five_numbers, line_of};
+use answer_checks::{Tip, depth_refusal};
+use answer_numbers::{BoundedPile, five_numbers, line_of};
 use answer_tips::work_tip;
-use base_replies::{first, refuse, refused};
+use ground_shaft::cut_shaft;
 use record_pile_ranges::pile_refusal;
 use record_piles::take_pile;
 use record_slice_table::clear_table;
-use rules::{Answer, Pile, Refusal, SandNumbers};
+use rules::{Answer, Fault, Pile, SandNumbers};
 
 // What is worked out of a log and a pile record beside the table: the answer, and how many slices it has.
 #[derive(Clone, Copy)]
@@ -29,51 +28,54 @@ pub struct Worked {
     pub used: usize,
 }
 
-// A refusal by 5 to 12 or 17: no number, and no slice in the table.
-fn no_work(table: &mut [u8], refusal: Refusal) -> Worked
-    ensures worked { (result.answer ≡ answers.refused refusal) × (result.used ≡ 0) }
-    ensures table { table.new ≡ replicate (length table.old) 0 }
-{
-    clear_table(table);
-    let answer = refused(refusal);
-    Worked {
-        answer: answer,
-        used: 0,
-    }
-}
-
-// A pile that passes checks 5 to 8. Its shaft is cut before its tip is looked at: the cut tells the soil below the tip and its stratum.
-fn work_pile(log: &[u8], pile: Pile, extra: Option<SandNumbers>, table: &mut [u8]) -> Worked
-    requires { Passed log.now × (base.refuses (early (depth_of (rows_of log.now)) pile) ≡ false) × (table_size (limit_of log.now) ≤ length table.old) }
-    ensures worked { (result.answer ≡ answer_of (rows_of log.now) pile extra) × (result.used ≡ length (held_slices_of (rows_of log.now) pile extra)) }
-    ensures table { table.new ≡ table_bytes (length table.old) (held_slices_of (rows_of log.now) pile extra) }
-{
-    let cut = ground_shaft::cut_shaft(log, pile, table);
-    let soil = cut.soil;
-    let used = cut.used;
-    let tip = work_tip(pile, extra, soil, cut.top);
-    if tip.refusal != 0 {
-        return no_work(table, refuse(tip.refusal));
-    }
-    let answer = five_numbers(soil, pile, tip.resistance, line_of(cut.sum));
-    Worked {
-        answer: answer,
-        used: used,
-    }
-}
-
-// The answer and the table of a log past its checks, whose rows are this deep, a pile record and its extra record; the table has the places of the log's form.
-pub fn work_out(log: &[u8], depth: u64, pile: &[u8], extra: Option<SandNumbers>, table: &mut [u8]) -> Worked
+// Checks 5 to 12 and 17, then the numbers. The shaft is cut before the tip is looked at: the cut tells the soil below the tip and its stratum.
+// So a refusal may leave slices in the table.
+#[tactic(auto, using(crate::proofs::WorkLaws::by_pile, crate::proofs::WorkLaws::by_depth, crate::proofs::WorkLaws::by_tip, crate::proofs::WorkLaws::cleared, crate::proofs::WorkLaws::answer_is, crate::proofs::WorkLaws::slices_are, crate::proofs::WorkLaws::shaft_top, answer_numbers::proofs::SideLaws::sides), unfolding(ground_shaft::specs::Shafts::shaft_of))]
+fn work_pile(
+    log: &[u8],
+    depth: u64,
+    pile: Pile,
+    extra: Option<SandNumbers>,
+    table: &mut [u8],
+) -> Result<Worked, Fault>
     requires { Passed log.now × (depth ≡ depth_of (rows_of log.now)) × (table_size (limit_of log.now) ≤ length table.old) }
-    ensures worked { (result.answer ≡ fresh_answer log.now pile.now extra) × (result.used ≡ length (held_slices_of (rows_of log.now) (pile_of pile.now) extra)) }
+    ensures refusal { refusal_in result ≡ ground_checks (soil_at (rows_of log.now)) (depth_of (rows_of log.now)) pile extra }
+    ensures worked { IfOk result (λ work. (work.answer ≡ answer_of (rows_of log.now) pile extra) × (work.used ≡ length (held_slices_of (rows_of log.now) pile extra))) }
+    ensures table { IfOk result (λ work. table.new ≡ table_bytes (length table.old) (held_slices_of (rows_of log.now) pile extra)) }
+{
+    pile_refusal(pile)?;
+    depth_refusal(pile, depth)?;
+    let cut = cut_shaft(log, pile, table);
+    let tip = Tip {
+        pile,
+        soil: cut.soil,
+        top: cut.top,
+    };
+    let r = work_tip(tip, extra)?;
+    let answer = five_numbers(cut.soil, BoundedPile { pile }, r, line_of(cut.sum));
+    Ok(Worked {
+        answer,
+        used: cut.used,
+    })
+}
+
+// The answer and the table of a log past its checks, whose rows are this deep, a pile record and its extra record; the table has the places of
+// the log's form. Under a refusal the table becomes all zero.
+#[tactic(auto, using(crate::proofs::WorkLaws::none_worked, record_slice_table::proofs::TableLaws::filled_none), unfolding(rules::specs::Calculation::fresh_answer))]
+pub fn work_out(
+    log: &[u8],
+    depth: u64,
+    pile: &[u8],
+    extra: Option<SandNumbers>,
+    table: &mut [u8],
+) -> Result<Worked, Fault>
+    requires { Passed log.now × (depth ≡ depth_of (rows_of log.now)) × (table_size (limit_of log.now) ≤ length table.old) }
+    ensures worked { (answer_in result ≡ fresh_answer log.now pile.now extra) × (used_in result ≡ length (held_slices_of (rows_of log.now) (pile_of pile.now) extra)) }
     ensures table { table.new ≡ table_bytes (length table.old) (held_slices_of (rows_of log.now) (pile_of pile.now) extra) }
 {
-    let p = take_pile(pile);
-    let own = pile_refusal(p);
-    let early = depth_refusal(p, depth);
-    let refusal = first(own, refuse(early));
-    if refusal.number != 0 {
-        return no_work(table, refusal);
+    let work = work_pile(log, depth, take_pile(pile), extra, table);
+    if work.is_err() {
+        clear_table(table);
     }
-    work_pile(log, p, extra, table)
+    work
 }

@@ -1,0 +1,2 @@
+-- What a work that may be refused comes to.
+pub mod Outcomes
