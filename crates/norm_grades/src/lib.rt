@@ -4,21 +4,14 @@
 ghost use Rattle.std.specs.Prelude.{◌≡◌, ◌-◌, ◌^◌, ◌≤◌};
 ghost use Rattle.rules.specs.Grades as rule;
 
-use base_order::larger;
 use rules::FREE_GRADE;
-
-// Grades from here on are negative: 16 bits in two's complement.
-const NEGATIVE: u16 = 32768;
 
 // How deep the site is cut; 0 where it is not.
 #[tactic(auto, unfolding(rules::specs::Grades::cut_depth))]
 pub fn cut_depth(grade: u16) -> u64
     ensures { (result ≡ rule.cut_depth grade) × (result ≤ 2 ^ 15) }
 {
-    if grade < NEGATIVE {
-        return 0;
-    }
-    65536 - grade as u64
+    u64::from(grade.cast_signed().min(0).unsigned_abs())
 }
 
 // How high it is filled; 0 where it is not.
@@ -26,18 +19,14 @@ pub fn cut_depth(grade: u16) -> u64
 fn fill_height(grade: u16) -> u64
     ensures { (result ≡ rule.fill_height grade) × (result ≤ 2 ^ 15) }
 {
-    if grade < NEGATIVE {
-        return grade as u64;
-    }
-    0
+    u64::from(grade.cast_signed().max(0).unsigned_abs())
 }
 
 // A depth in millimetres, less the cut.
 pub fn below_cut(grade: u16, depth: u16) -> u64
     ensures { (result ≡ depth - rule.cut_depth grade) × (result ≤ depth) }
 {
-    let cut = cut_depth(grade);
-    larger(depth as u64, cut) - cut
+    u64::from(depth).saturating_sub(cut_depth(grade))
 }
 
 // How far the depths at which the tables are read are moved, in millimetres: raised by a fill, lowered by a cut.
@@ -51,11 +40,9 @@ pub struct Shift {
 pub fn shift_of(grade: u16) -> Shift
     ensures { (result ≡ record { raising = rule.raising grade; lowering = rule.lowering grade }) × (result.raising ≤ 2 ^ 15) }
 {
-    let fill = larger(FREE_GRADE, fill_height(grade));
-    let cut = larger(FREE_GRADE, cut_depth(grade));
     Shift {
-        raising: fill - FREE_GRADE,
-        lowering: cut - FREE_GRADE,
+        raising: fill_height(grade).saturating_sub(FREE_GRADE),
+        lowering: cut_depth(grade).saturating_sub(FREE_GRADE),
     }
 }
 
@@ -64,6 +51,5 @@ pub fn depth_read(grade: u16, depth: u16) -> u64
     ensures { result ≡ rule.as_read grade 1 depth }
 {
     let shift = shift_of(grade);
-    let low = depth as u64 + shift.raising;
-    larger(low, shift.lowering) - shift.lowering
+    (u64::from(depth) + shift.raising).saturating_sub(shift.lowering)
 }
