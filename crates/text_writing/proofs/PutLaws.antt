@@ -22,10 +22,10 @@ put_then {buf} {at} {s} {t} p q =
 
 -- the same of a writer, where one puts after the other, and where none has put yet
 pub puts_then : {a b c : Writer} {s t : List ℕ} → Puts a s b → Puts b t c → Puts a (s ++ t) c
-puts_then p q = record { same_buffer = q.same_buffer ∙ p.same_buffer; long = q.long ∙ p.long; put = put_then p.put q.put }
+puts_then p q = record { same_place = q.same_place ∙ p.same_place; same_buffer = q.same_buffer ∙ p.same_buffer; long = q.long ∙ p.long; put = put_then p.put q.put }
 
 pub puts_none : (w : Writer) → Puts w [] w
-puts_none w = record { same_buffer = refl; long = refl; put = record { bytes = refl; place = sym (add-zero w.at) } }
+puts_none w = record { same_place = refl; same_buffer = refl; long = refl; put = record { bytes = refl; place = sym (add-zero w.at) } }
 
 -- a text `of` a list whose elements have a `piece` each: that of one element more
 module _ {A : Type 0} (of : List A → List ℕ) (piece : A → List ℕ) (none : of [] ≡ []) (cons : (x : A) (xs : List A) → of (x ∷ xs) ≡ piece x ++ of xs) where

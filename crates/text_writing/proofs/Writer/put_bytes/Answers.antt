@@ -5,6 +5,7 @@ use Rattle.text_writing.proofs.Writer.put_bytes.Goals as goal
 
 pub returns : goal.returns
 returns c = record {
+  same_place = refl;
   same_buffer = refl;
   long = c.copy_in.auto.d;
   put = record { bytes = c.copy_in.ensures ∙ sym (sets-eq _ _ _ c.requires); place = refl };
