@@ -1,5 +1,5 @@
 -- Laws of checks 13, 14, 3 and 4 of an edit of a log that passes: one by one, and the depth of the new log.
-use mathlib.Core.Path.{◌≡◌}
+use mathlib.Core.Path.{◌≡◌, sym, ap}
 use mathlib.Core.Bool.{true, false}
 use mathlib.Core.Logic.{◌⊎◌, ⊎_elim}
 use mathlib.Core.List.{List, [], ◌∷◌}
@@ -8,19 +8,18 @@ use native.Mathlib.Omega.{arith}
 use lib.ListN.{length, take, drop}
 use lib.Seq.{drop-cons}
 use borrow.Author.Tests.{lt-ltb, le-ltb}
-use Rattle.rules.specs.declared.Refusal.{Refusal}
 use Rattle.rules.specs.declared.Row.{Row}
 use Rattle.rules.specs.Base.{refuse, refuses, nothing, when, first}
 use Rattle.rules.specs.Limits.{limit_of, depth_limit}
 use Rattle.rules.specs.Packed.{no_row, row_at, rows_of}
 use Rattle.rules.specs.Ground.{depth_of}
-use Rattle.rules.specs.Edits.{asked, row_named, part, stands, edited_rows}
-use Rattle.rules.specs.Checks.{full, new_row_check}
-use Rattle.rules.proofs.Groups.{change_checks}
+use Rattle.rules.specs.Edits.{Edit, asked, row_named, part, stands, edited_rows}
+use Rattle.rules.specs.Checks.{full, new_row_check, formless, Passed, lengths_wrong, edit_lengths_wrong}
+use Rattle.rules.proofs.Groups.{content_checks, change_checks, log_grouped}
+use Rattle.rules.proofs.RefusalLaws.{first_none, when_false, either_left}
 use Rattle.rules.proofs.SpliceLaws.{depth_parts, splice_depth}
 use Rattle.rules.proofs.EditLaws.{Standing, replaces, inserts, removes, splits}
-use Rattle.record_log_checks.specs.declared.Checked.{Checked}
-use Rattle.edit_checks.specs.Checked.{goes, comes, change_checked}
+use Rattle.edit_checks.specs.Depths.{goes, comes}
 
 -- what row k takes of the depth
 row_depth : (rs : List Row) (k : ℕ) → 1 ≤ k → k ≤ length rs → (depth_of (take 1 (drop (k - 1) rs)) ≡ (row_named rs k).thickness) × ((row_named rs k).thickness ≤ depth_of rs)
@@ -56,30 +55,18 @@ module _ (kind k x : ℕ) (row : List ℕ) (rs : List Row) where
   named (removes e h g m) o = (h, g)
   named (splits e h g a b) o = (h, g)
 
--- 13, 14, 3 and 4, each where those before it refuse nothing
-module _ (kind k x : ℕ) (row l : List ℕ) where
-  abbrev Replied : Refusal → ℕ → Type 0
-  Replied w d = ◌≡◌ {A = Checked} (record { refusal = w; depth = d }) (change_checked (asked kind k x row) l)
+-- 13, 14, 3 and 4, where the first three refuse nothing and the new log is d mm deep
+module _ (e : Edit) (l : List ℕ) (s : stands e (rows_of l) ≡ true) (f : full e.kind (limit_of l) (length (rows_of l)) ≡ false) (n : nothing ≡ new_row_check e) (d : ℕ) (new : depth_of (edited_rows e (rows_of l)) ≡ d) where
+  pub change_4 : depth_limit < d → refuse 4 ≡ change_checks e l
+  unfolding change_checks when first
+  change_4 g = rw (s, f, ← n, new, lt-ltb depth_limit d g)
 
-  pub change_13 : stands (asked kind k x []) (rows_of l) ≡ false → Replied (refuse 13) 0
-  unfolding change_checked change_checks when first stands
-  change_13 h = rw h
+  pub change_none : d ≤ depth_limit → nothing ≡ change_checks e l
+  unfolding change_checks when first
+  change_none g = rw (s, f, ← n, new, le-ltb depth_limit d g)
 
-  module _ (s : stands (asked kind k x []) (rows_of l) ≡ true) where
-    pub change_14 : full kind (limit_of l) (length (rows_of l)) ≡ true → Replied (refuse 14) 0
-    unfolding change_checked change_checks when first stands
-    change_14 h = rw (s, h)
-
-    module _ (f : full kind (limit_of l) (length (rows_of l)) ≡ false) (w : Refusal) (e : w ≡ new_row_check (asked kind k 0 row)) where
-      pub change_3 : 0 < w.number → Replied w 0
-      unfolding change_checked change_checks when first stands new_row_check
-      change_3 h = let t : refuses w ≡ true = lt-ltb 0 w.number h in rw (s, f, ← e, t, t)
-
-      module _ (h : w.number ≤ 0) (d : ℕ) (new : depth_of (edited_rows (asked kind k x row) (rows_of l)) ≡ d) where
-        pub change_4 : depth_limit < d → Replied (refuse 4) 0
-        unfolding change_checked change_checks when first stands new_row_check
-        change_4 g = rw (s, f, ← e, le-ltb 0 w.number h, new, lt-ltb depth_limit d g)
-
-        pub change_none : (v : Refusal) → v ≡ nothing → d ≤ depth_limit → Replied v d
-        unfolding change_checked change_checks when first stands new_row_check
-        change_none v n g = rw (n, s, f, ← e, le-ltb 0 w.number h, new, le-ltb depth_limit d g)
+-- a log whose length and content refuse nothing passes
+pub passed : (e : Edit) (log pile table : List ℕ) → edit_lengths_wrong e log pile table ≡ false → nothing ≡ content_checks log → Passed log
+passed e log pile table h n =
+    let formed : formless log ≡ false = either_left _ _ (either_left (lengths_wrong log pile table) _ h) in
+    rw (log_grouped log) (first_none (when (formless log) 1) (content_checks log) (ap refuses (when_false 1 (formless log) formed)) (ap refuses (sym n)))

@@ -1,2 +1,2 @@
 -- Definitions beside the rules.
-pub mod Checked
+pub mod Depths

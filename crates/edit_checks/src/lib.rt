@@ -1,140 +1,95 @@
 // The refusals of an edit, in order: 1 to 4 of what is lent, 13, 14, 3 for the new row, 4 for the new log; and how deep the new log is.
 #![tactic(auto)]
 
-ghost use Rattle.std.specs.Prelude.{◌≡◌, ◌⊎◌, ◌+◌, ◌*◌, ◌≤◌, ◌<◌, length};
-ghost use Rattle.rules.specs.Base as base;
+ghost use Rattle.std.specs.Prelude.{◌≡◌, ◌⊎◌, ◌+◌, ◌*◌, ◌≤◌, ◌<◌, length, IfOk};
 ghost use Rattle.rules.specs.Records.{row_size};
 ghost use Rattle.rules.specs.Packed.{count_of, rows_of};
 ghost use Rattle.rules.specs.Ground.{depth_of};
-ghost use Rattle.rules.specs.Edits.{asked};
-ghost use Rattle.rules.specs.Checks.{Passed};
+ghost use Rattle.rules.specs.Edits.{edited_rows};
+ghost use Rattle.rules.specs.Checks.{Passed, edit_checks};
 ghost use Rattle.rules.specs.Checks as checks;
-ghost use Rattle.edit_checks.specs.Checked.{goes, comes, change_checked, edit_checked};
+ghost use Rattle.rules.specs.Faults.{refusal_in};
+ghost use Rattle.rules.proofs.Groups.{change_checks};
+ghost use Rattle.edit_naming.specs.Asked.{edit_of, number_of};
+ghost use Rattle.edit_checks.specs.Depths.{goes, comes};
 
-use base_replies::refuse;
-use edit_naming::{brings, named_row};
-use record_log_checks::Checked;
+use edit_naming::{Edit, EditKind, named_row};
 use record_rows::read_row;
-use rules::{DEPTH_LIMIT, ROW_SIZE, Refusal};
-
-fn refused(n: u32) -> Checked
-    ensures { result ≡ record { refusal = base.refuse n; depth = 0 } }
-{
-    let refusal = refuse(n);
-    Checked {
-        refusal: refusal,
-        depth: 0,
-    }
-}
+use rules::{DEPTH_LIMIT, Fault, ROW_SIZE};
 
 // Check 1, of every piece that the edit's kind uses.
-fn lengths_wrong(log: &[u8], pile: &[u8], table: &[u8], kind: u32, row: &[u8]) -> bool
-    ensures { result ≡ checks.edit_lengths_wrong (asked kind 0 0 row.now) log.now pile.now table.now }
+fn lengths_wrong(log: &[u8], pile: &[u8], table: &[u8], edit: Edit<'_>) -> bool
+    ensures { result ≡ checks.edit_lengths_wrong (edit_of edit.entry) log.now pile.now table.now }
 {
-    if record_lengths::lengths_wrong(log, pile, table) {
-        return true;
-    }
-    if !brings(kind) {
-        return false;
-    }
-    row.len() != ROW_SIZE
+    record_lengths::lengths_wrong(log, pile, table) || edit.brings() && edit.row.len() != ROW_SIZE
 }
 
 // Check 3 of the row that replace and insert bring.
 #[tactic(auto, unfolding(rules::specs::Checks::new_row_check))]
-fn new_row_refusal(kind: u32, k: u32, row: &[u8]) -> Refusal
-    ensures { result ≡ checks.new_row_check (asked kind k 0 row.now) }
+fn check_new_row(edit: Edit<'_>) -> Result<(), Fault>
+    ensures { refusal_in result ≡ checks.new_row_check (edit_of edit.entry) }
 {
-    if !brings(kind) {
-        return refuse(0);
+    if !edit.brings() {
+        return Ok(());
     }
-    let f = record_row_ranges::row_field(read_row(row, 0));
-    if 0 < f {
-        return Refusal {
-            number: 3,
-            row: k,
-            field: f,
-        };
+    match record_row_ranges::row_field(read_row(edit.row, 0)) {
+        Some(field) => Err(Fault::Row { row: edit.k, field }),
+        None => Ok(()),
     }
-    refuse(0)
 }
 
 // The thickness that goes.
-fn gone(log: &[u8], kind: u32, k: u32) -> u64
+fn gone(log: &[u8], edit: Edit<'_>) -> u64
     requires inside { 1 + count_of log.now * row_size ≤ length log.now }
-    requires named { (kind ≡ 1) ⊎ (kind ≡ 3) → (1 ≤ k) × (k ≤ count_of log.now) }
-    ensures { result ≡ goes kind k (rows_of log.now) }
+    requires named { (number_of edit.kind ≡ 1) ⊎ (number_of edit.kind ≡ 3) → (1 ≤ edit.k) × (edit.k ≤ count_of log.now) }
+    ensures { result ≡ goes (number_of edit.entry.kind) edit.entry.k (rows_of log.now) }
 {
-    match kind {
-        1 | 3 => {
-            let row = named_row(log, k);
-            row.thickness as u64
-        }
+    match edit.kind {
+        Some(EditKind::Replace | EditKind::Remove) => u64::from(named_row(log, edit.k).thickness),
         _ => 0,
     }
 }
 
 // The thickness that comes.
-fn come(kind: u32, row: &[u8]) -> u64
-    ensures { (result ≡ comes kind row.now) × (result < 65536) }
+fn come(edit: Edit<'_>) -> u64
+    ensures { (result ≡ comes (number_of edit.entry.kind) edit.entry.row.now) × (result < 65536) }
 {
-    if !brings(kind) {
+    if !edit.brings() {
         return 0;
     }
-    let new = read_row(row, 0);
-    new.thickness as u64
+    u64::from(read_row(edit.row, 0).thickness)
 }
 
 // Checks 13, 14, 3 and 4 of an edit of a log that passes. The new log's depth comes from the lent one's.
-fn check_change(log: &[u8], depth: u64, kind: u32, k: u32, x: u32, row: &[u8]) -> Checked
+#[tactic(auto, unfolding(rules::proofs::Groups::change_checks, rules::specs::Base::first, rules::specs::Base::when))]
+fn check_change(log: &[u8], depth: u64, edit: Edit<'_>) -> Result<u64, Fault>
     requires { Passed log.now × (depth ≡ depth_of (rows_of log.now)) }
-    ensures { result ≡ change_checked (asked kind k x row.now) log.now }
+    ensures refusal { refusal_in result ≡ change_checks (edit_of edit.entry) log.now }
+    ensures depth { IfOk result (λ deep. deep ≡ depth_of (edited_rows (edit_of edit.entry) (rows_of log.now))) }
 {
-    let fails = !edit_naming::stands(log, kind, k, x);
-    let full = edit_naming::full(log, kind);
-    if fails {
-        return refused(13);
+    if !edit.stands(log) {
+        return Err(Fault::NamesNothing);
     }
-    if full {
-        return refused(14);
+    if edit.full(log) {
+        return Err(Fault::Full);
     }
-    let new = new_row_refusal(kind, k, row);
-    if 0 < new.number {
-        return Checked {
-            refusal: new,
-            depth: 0,
-        };
-    }
-    let deep = depth - gone(log, kind, k) + come(kind, row);
+    check_new_row(edit)?;
+    let deep = depth - gone(log, edit) + come(edit);
     if DEPTH_LIMIT < deep {
-        return refused(4);
+        return Err(Fault::TooDeep);
     }
-    let passed = refuse(0);
-    Checked {
-        refusal: passed,
-        depth: deep,
-    }
+    Ok(deep)
 }
 
-// All of them. The lent log is read once for checks 2 to 4.
-pub fn check_edit(
-    log: &[u8],
-    pile: &[u8],
-    table: &[u8],
-    kind: u32,
-    k: u32,
-    x: u32,
-    row: &[u8],
-) -> Checked
-    ensures { result ≡ edit_checked (asked kind k x row.now) log.now pile.now table.now }
+// All of them, and how deep the new log is. The lent log is read once for checks 2 to 4.
+#[tactic(auto, using(rules::proofs::Groups::edit_grouped), unfolding(rules::specs::Base::first, rules::specs::Base::when))]
+pub fn check_edit(log: &[u8], pile: &[u8], table: &[u8], edit: Edit<'_>) -> Result<u64, Fault>
+    ensures refusal { refusal_in result ≡ edit_checks (edit_of edit.entry) log.now pile.now table.now }
+    ensures depth { IfOk result (λ deep. deep ≡ depth_of (edited_rows (edit_of edit.entry) (rows_of log.now))) }
 {
-    if lengths_wrong(log, pile, table, kind, row) {
-        return refused(1);
+    if lengths_wrong(log, pile, table, edit) {
+        return Err(Fault::Length);
     }
-    let lent = record_log_checks::check_content(log);
-    let refusal = lent.refusal;
-    if 0 < refusal.number {
-        return lent;
-    }
-    check_change(log, lent.depth, kind, k, x, row)
+    let depth = record_log_checks::check_content(log)?;
+    check_change(log, depth, edit)
 }
