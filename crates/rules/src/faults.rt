@@ -135,11 +135,11 @@ impl From<Fault> for Refusal {
 
 // What a check replies, as a refusal: of number 0 where nothing is wrong.
 #[tactic(auto, unfolding(crate::specs::Faults::refusal_in))]
-pub fn refusal_in<T: Drop>(outcome: Result<T, Fault>) -> Refusal
+pub fn refusal_in(outcome: Result<(), Fault>) -> Refusal
     ensures { result ≡ refusal_in outcome }
 {
     match outcome {
-        Ok(_) => numbered(0),
+        Ok(()) => numbered(0),
         Err(fault) => Refusal::from(fault),
     }
 }
