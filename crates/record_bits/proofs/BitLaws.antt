@@ -1,5 +1,5 @@
 -- Zero bytes, the remainder by a power of two, and a part of a list that goes to its end.
-use Rattle.std.proofs.Common.{◌≡◌, ℕ, zero, suc, ◌+◌, ◌-◌, ◌%◌, ◌^◌, ◌<◌, ◌≤◌, List, [], ◌∷◌, length, get_or, take, drop, replicate, refl, zero-mul, mod-lt, pow_pos, arith, length-drop, get_or-drop, take_all}
+use Rattle.std.proofs.Common.{◌≡◌, ℕ, ◌+◌, ◌-◌, ◌%◌, ◌^◌, ◌<◌, ◌≤◌, List, [], ◌∷◌, length, get_or, take, drop, refl, zero-mul, mod-lt, pow_pos, arith, length-drop, get_or-drop, take_all}
 use Rattle.rules.specs.Widths.{join, bytes}
 use Rattle.rules.specs.Packed.{number_at}
 
@@ -17,11 +17,6 @@ number_blank s i at n b h = join_blank (bytes n) (drop at s) (λ (k : ℕ). rw g
 
 pub remainder_small : (w n : ℕ) → w % 2 ^ n < 2 ^ n
 remainder_small w n = mod-lt w (pow_pos n)
-
-pub zeros : (n k : ℕ) → ◌≡◌ {A = ℕ} (get_or (replicate n 0) k 0) 0
-zeros zero k = refl
-zeros (suc n) zero = refl
-zeros (suc n) (suc k) = zeros n k
 
 pub part_whole : (s : List ℕ) (i : ℕ) → take (length s - i) (drop i s) ≡ drop i s
 part_whole s i = take_all (length s - i) (drop i s) (rw length-drop (omega arith))

@@ -13,8 +13,8 @@ use Rattle.rules.specs.Limits.{row_limit, place_limit, table_size, table_limit}
 use Rattle.rules.specs.Packed.{slice_at, slice_bytes, slices_bytes, table_bytes}
 use Rattle.rules.specs.Reading.{no_slice, read_slice}
 use Rattle.rules.proofs.Basics.{split}
-use Rattle.rules.proofs.WidthLaws.{number_part}
-use Rattle.record_bits.proofs.BitLaws.{number_blank, zeros}
+use Rattle.rules.proofs.WidthLaws.{number_part, zeros_behind}
+use Rattle.record_bits.proofs.BitLaws.{number_blank}
 use Rattle.record_slices.proofs.RoundTrip.{slice_there, slice_back}
 use Rattle.record_slice_table.proofs.TableLaws.{filled_long}
 
@@ -35,7 +35,7 @@ slice_behind c s i =
 -- slices packed one after another, and k zeros
 pub places_there : (cs : List Slice) (k i : ℕ) → EachFits cs → slice_at (slices_bytes cs ++ replicate k 0) i ≡ get_or cs i no_slice
 unfolding slices_bytes slice_bytes slice_at
-places_there [] k i f = ap slice_in (number_blank (replicate k 0) 0 (i * slice_size) slice_size (λ j h. zeros k j) (omega arith))
+places_there [] k i f = ap slice_in (number_blank (replicate k 0) 0 (i * slice_size) slice_size (λ j h. zeros_behind [] k j) (omega arith))
 places_there (c ∷ cs) k zero f = slice_there c (slices_bytes cs ++ replicate k 0) (f 0 (omega arith))
 places_there (c ∷ cs) k (suc i) f = slice_behind c (slices_bytes cs ++ replicate k 0) i ∙ places_there cs k i (λ j h. f (suc j) (omega arith))
 
