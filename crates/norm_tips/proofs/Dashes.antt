@@ -1,6 +1,6 @@
 -- What table 7.8 is read to at a spot: a dash where one has a weight, else R, from the four cells there.
-use Rattle.std.specs.Prelude.{Option, None, Some}
-use mathlib.Core.Path.{◌≡◌, sym, ◌∙◌}
+use Rattle.std.specs.Prelude.{Option, None, Some, unwrap_or}
+use mathlib.Core.Path.{◌≡◌, refl, sym, ◌∙◌}
 use mathlib.Core.Bool.{true, false}
 use Prim.Native.Nat.{ℕ, ◌+◌, ◌*◌, ◌-◌, ◌/◌, ◌≤◌, max}
 use native.Mathlib.Omega.{arith}
@@ -13,6 +13,11 @@ use Rattle.norm_spots.proofs.Weights.{weighed_le, shared}
 use Rattle.norm_tips.specs.Cells.{dash_of, tip_read_at}
 use Rattle.norm_tips.proofs.Printing.{cells}
 
+-- a dash has no kPa
+kpa_is : (c : Option ℕ) → unwrap_or c 0 ≡ kpa_of c
+kpa_is None = refl
+kpa_is (Some n) = refl
+
 module _ (p : Spot) (a b c d : Option ℕ) (e : a ≡ tip_cell p.row p.column) (f : b ≡ tip_cell p.row (p.column + 1))
     (g : c ≡ tip_cell (p.row + 1) p.column) (h : d ≡ tip_cell (p.row + 1) (p.column + 1)) where
   dash_is : dash_of p a b c d ≡ dash_at p
@@ -23,12 +28,12 @@ module _ (p : Spot) (a b c d : Option ℕ) (e : a ≡ tip_cell p.row p.column) (
   unfolding tip_read_at
   reads_dash t = let u : dash_at p ≡ true = sym dash_is ∙ t in (rw u, omega arith)
 
-  pub reads_pascals : (r w : ℕ) → InTable 8 5 p → dash_of p a b c d ≡ false → w ≡ weighed p (kpa_of a) (kpa_of b) (kpa_of c) (kpa_of d)
+  pub reads_pascals : (r w : ℕ) → InTable 8 5 p → dash_of p a b c d ≡ false → w ≡ weighed p (unwrap_or a 0) (unwrap_or b 0) (unwrap_or c 0) (unwrap_or d 0)
       → r ≡ w * 100 / p.span → (Some r ≡ tip_read_at p) × (pascals (Some r) ≤ resistance_bound)
   unfolding tip_read_at tip_at
   reads_pascals r w t u i j =
       let v : dash_at p ≡ false = sym dash_is ∙ u in
-      let k : r ≡ tip_at p = rw (j, i, e, f, g, h) in
+      let k : r ≡ tip_at p = rw (j, i, kpa_is a, kpa_is b, kpa_is c, kpa_is d, e, f, g, h) in
       (rw (v, k), rw k (shared _ p.span (10 * cell_bound) 100 (weighed_le (λ i j. kpa_of (tip_cell i j)) 8 5 cell_bound p t cells)))
 
 pub tip_resistance_read : (depth index l : ℕ) (p : Spot) (r : Option ℕ)

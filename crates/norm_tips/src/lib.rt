@@ -32,42 +32,14 @@ const ROWS: [[u16; 7]; 10] = [
 fn cell_of(n: u16) -> Option<u64>
     ensures { result ≡ cell_of n }
 {
-    if n == DASH {
-        return None;
-    }
-    Some(n as u64)
-}
-
-// A cell of the lent rows.
-fn cell(rows: &[[u16; 7]; 10], i: usize, j: usize) -> Option<u64>
-    requires { Printed rows.now × (i < 10) × (j < 7) }
-    ensures { (result ≡ tip_cell i j) × (kpa_of result ≤ cell_bound) }
-{
-    cell_of(rows[i][j])
-}
-
-fn kpa_of(c: Option<u64>) -> u64
-    ensures { result ≡ kpa_of c }
-{
-    match c {
-        None => 0,
-        Some(n) => n,
-    }
+    (n != DASH).then_some(u64::from(n))
 }
 
 // A dash, and both weights above zero.
 fn on_dash(u: u64, v: u64, c: Option<u64>) -> bool
     ensures { result ≡ gap u v c }
 {
-    match c {
-        None => {
-            if u == 0 {
-                return false;
-            }
-            0 < v
-        }
-        Some(_) => false,
-    }
+    c.is_none() && 0 < u && 0 < v
 }
 
 #[tactic(auto, unfolding(crate::specs::Cells::dash_of))]
@@ -75,20 +47,12 @@ fn any_dash(p: Spot, a: Option<u64>, b: Option<u64>, c: Option<u64>, d: Option<u
     requires { Weights p }
     ensures { result ≡ dash_of p a b c d }
 {
-    let across = p.across;
-    let down = p.down;
-    let up = p.span - down;
-    let left = 10 - across;
-    if on_dash(up, left, a) {
-        return true;
-    }
-    if on_dash(up, across, b) {
-        return true;
-    }
-    if on_dash(down, left, c) {
-        return true;
-    }
-    on_dash(down, across, d)
+    let up = p.span - p.down;
+    let left = 10 - p.across;
+    on_dash(up, left, a)
+        || on_dash(up, p.across, b)
+        || on_dash(p.down, left, c)
+        || on_dash(p.down, p.across, d)
 }
 
 // "R to whole Pa": rounded down once, after both interpolations.
@@ -99,22 +63,44 @@ fn whole_pascals(w: u64, span: u64) -> u64
     w * 100 / span
 }
 
-// R, or the dash.
-fn tip_at(rows: &[[u16; 7]; 10], p: Spot) -> Option<u64>
-    requires { Printed rows.now × InTable 8 5 p }
-    ensures { (result ≡ tip_read_at p) × (numbers.pascals result ≤ resistance_bound) }
-{
-    let i = p.row;
-    let j = p.column;
-    let a = cell(rows, i, j);
-    let b = cell(rows, i, j + 1);
-    let c = cell(rows, i + 1, j);
-    let d = cell(rows, i + 1, j + 1);
-    if any_dash(p, a, b, c, d) {
-        return None;
+// The rows as they are printed.
+#[derive(Drop)]
+struct TipRows {
+    cells: [[u16; 7]; 10],
+    ghost printed: { Printed cells },
+}
+
+impl TipRows {
+    fn cell(&self, i: usize, j: usize) -> Option<u64>
+        requires { (i < 10) × (j < 7) }
+        ensures { (result ≡ tip_cell i j) × (kpa_of result ≤ cell_bound) }
+    {
+        cell_of(self.cells[i][j])
     }
-    let w = norm_spots::weigh(p, kpa_of(a), kpa_of(b), kpa_of(c), kpa_of(d));
-    Some(whole_pascals(w, p.span))
+
+    // R, or the dash.
+    fn tip_at(&self, p: Spot) -> Option<u64>
+        requires { InTable 8 5 p }
+        ensures { (result ≡ tip_read_at p) × (numbers.pascals result ≤ resistance_bound) }
+    {
+        let i = p.row;
+        let j = p.column;
+        let a = self.cell(i, j);
+        let b = self.cell(i, j + 1);
+        let c = self.cell(i + 1, j);
+        let d = self.cell(i + 1, j + 1);
+        if any_dash(p, a, b, c, d) {
+            return None;
+        }
+        let w = norm_spots::weigh(
+            p,
+            a.unwrap_or(0),
+            b.unwrap_or(0),
+            c.unwrap_or(0),
+            d.unwrap_or(0),
+        );
+        Some(whole_pascals(w, p.span))
+    }
 }
 
 // At a depth in millimetres, by an index stored as hundredths plus 100.
@@ -122,5 +108,6 @@ pub fn tip_resistance(depth: u64, index: u8) -> Option<u64>
     ensures { (result ≡ tip_read depth index) × (numbers.pascals result ≤ resistance_bound) }
 {
     let p = norm_tip_rows::tip_spot(depth, norm_columns::past(100, index));
-    tip_at(&ROWS, p)
+    let rows = TipRows { cells: ROWS };
+    rows.tip_at(p)
 }

@@ -1,2 +1,0 @@
--- Laws of a site's grade.
-pub mod ShiftLaws
