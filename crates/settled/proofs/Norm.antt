@@ -1,12 +1,15 @@
 -- That each contract of the layer norm settles its reply.
 use mathlib.Core.Path.{◌≡◌, sym, ◌∙◌}
-use native.Mathlib.Nat.{eq_of_mul-eq-mul_right}
-use Rattle.rules.specs.Tables.{friction_depths, metre}
+use mathlib.Core.HLevel.{is_prop→PathP}
+use mathlib.Core.List.{is_set}
+use native.Mathlib.Nat.{eq_of_mul-eq-mul_right, ℕ_set}
+use Rattle.rules.specs.Tables.{friction_depths, friction_rows, metre}
 use Rattle.norm_columns.specs.declared.Column.{Column}
 use Rattle.norm_spots.proofs.Rows.{in_table}
 use Rattle.norm_friction_rows.specs.declared.Standing.{Standing}
 use Rattle.norm_friction_rows.specs.Standings.{spot_at}
 use Rattle.norm_friction_rows.proofs.Steps.{friction_deepens}
+use Rattle.norm_friction.specs.declared.FrictionRows.{FrictionRows}
 use Rattle.settled.proofs.Settled.{Settled}
 use Rattle.norm_columns.proofs as norm_columns
 use Rattle.norm_spots.proofs as norm_spots
@@ -49,13 +52,17 @@ tip_spot _ _ _ h g = cc
 pub weigh : Settled norm_spots.weigh.Kinds.ps norm_spots.weigh.Kinds.r norm_spots.weigh.Reads.Pre norm_spots.weigh.Reads.Learnt
 weigh _ _ _ h g = cc
 
+-- the rows are those printed, and so is the proof of it
+table : {r s : FrictionRows} → r.cells ≡ s.cells → r ≡ s
+table {r} {s} e = λ i. record { cells = e i; printed = is_prop→PathP (λ k. e k ≡ friction_rows) (λ k. is_set (is_set ℕ_set) (e k) friction_rows) r.printed s.printed i }
+
 pub rows : Settled norm_friction.rows.Kinds.ps norm_friction.rows.Kinds.r norm_friction.rows.Reads.Pre norm_friction.rows.Reads.Learnt
-rows _ _ _ h g = cc
+rows _ _ _ h g = table (h ∙ sym g)
 
 pub column_of : Settled norm_friction.column_of.Kinds.ps norm_friction.column_of.Kinds.r norm_friction.column_of.Reads.Pre norm_friction.column_of.Reads.Learnt
 column_of _ _ _ h g = column (cc) (cc)
 
-pub friction : Settled norm_friction.friction.Kinds.ps norm_friction.friction.Kinds.r norm_friction.friction.Reads.Pre norm_friction.friction.Reads.Learnt
+pub friction : Settled norm_friction.FrictionRows.friction.Kinds.ps norm_friction.FrictionRows.friction.Kinds.r norm_friction.FrictionRows.friction.Reads.Pre norm_friction.FrictionRows.friction.Reads.Learnt
 friction _ _ _ h g = cc
 
 pub tip_resistance : Settled norm_tips.tip_resistance.Kinds.ps norm_tips.tip_resistance.Kinds.r norm_tips.tip_resistance.Reads.Pre norm_tips.tip_resistance.Reads.Learnt
@@ -72,6 +79,9 @@ on_diameters _ _ _ h g = cc
 
 pub on_depths : Settled norm_scales.on_depths.Kinds.ps norm_scales.on_depths.Kinds.r norm_scales.on_depths.Reads.Pre norm_scales.on_depths.Reads.Learnt
 on_depths _ _ _ h g = cc
+
+pub line_at : Settled norm_scales.line_at.Kinds.ps norm_scales.line_at.Kinds.r norm_scales.line_at.Reads.Pre norm_scales.line_at.Reads.Learnt
+line_at _ _ _ h g = cc
 
 pub alpha_1 : Settled norm_alphas.alpha_1.Kinds.ps norm_alphas.alpha_1.Kinds.r norm_alphas.alpha_1.Reads.Pre norm_alphas.alpha_1.Reads.Learnt
 alpha_1 _ _ _ h g = cc
