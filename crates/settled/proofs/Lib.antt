@@ -1,5 +1,6 @@
 -- Every public contract settles its reply.
 pub mod Settled
+pub mod Outcomes
 pub mod Base
 pub mod Norm
 pub mod Record

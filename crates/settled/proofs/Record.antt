@@ -1,7 +1,11 @@
 -- That each contract of the layer record settles its reply.
-use mathlib.Core.Path.{◌≡◌, refl}
+use mathlib.Core.Path.{◌≡◌, refl, sym, ◌∙◌}
+use Prim.Native.Nat.{ℕ}
+use mir.Syntax.{w64}
+use mir.Val.{Fits}
+use native.Mathlib.Omega.{arith}
+use Rattle.settled.proofs.Outcomes.{one_outcome, one_check, one_fault, one_row_field, one_limit}
 use Rattle.record_bits.specs.declared.Cursor.{Cursor}
-use Rattle.record_bits.specs.declared.Bits.{Bits}
 use Rattle.settled.proofs.Settled.{Settled}
 use Rattle.record_bits.proofs as record_bits
 use Rattle.record_words.proofs as record_words
@@ -11,7 +15,6 @@ use Rattle.record_pile_ranges.proofs as record_pile_ranges
 use Rattle.record_row_bytes.proofs as record_row_bytes
 use Rattle.record_rows.proofs as record_rows
 use Rattle.record_lengths.proofs as record_lengths
-use Rattle.record_sand.proofs as record_sand
 use Rattle.record_unused.proofs as record_unused
 use Rattle.record_log_checks.proofs as record_log_checks
 use Rattle.record_logs.proofs as record_logs
@@ -24,23 +27,20 @@ use Rattle.record_slice_table.proofs as record_slice_table
 cursor : {r q : Cursor} → r.word ≡ q.word → r.at ≡ q.at → r ≡ q
 cursor w a = λ i. record { word = w i; at = a i }
 
-bits : {r q : Bits} → r.value ≡ q.value → r.next ≡ q.next → r ≡ q
-bits v n = λ i. record { value = v i; next = n i }
+pub over : Settled record_bits.Cursor.over.Kinds.ps record_bits.Cursor.over.Kinds.r record_bits.Cursor.over.Reads.Pre record_bits.Cursor.over.Reads.Learnt
+over _ _ _ h g = cursor (cc) (omega (arith, h.1, g.1))
 
-pub take_bits : Settled record_bits.take_bits.Kinds.ps record_bits.take_bits.Kinds.r record_bits.take_bits.Reads.Pre record_bits.take_bits.Reads.Learnt
-take_bits _ _ _ h g = bits (cc) (cursor (cc) (cc))
+pub take : Settled record_bits.Cursor.take.Kinds.ps record_bits.Cursor.take.Kinds.r record_bits.Cursor.take.Reads.Pre record_bits.Cursor.take.Reads.Learnt
+take _ _ _ h g = (cc, cursor (cc) (cc))
 
-pub put_bits : Settled record_bits.put_bits.Kinds.ps record_bits.put_bits.Kinds.r record_bits.put_bits.Reads.Pre record_bits.put_bits.Reads.Learnt
-put_bits _ _ _ h g = cursor (cc) (cc)
+pub put : Settled record_bits.Cursor.put.Kinds.ps record_bits.Cursor.put.Kinds.r record_bits.Cursor.put.Reads.Pre record_bits.Cursor.put.Reads.Learnt
+put _ _ _ h g = (refl, cursor (cc) (cc))
 
-pub whole_five : Settled record_words.whole_five.Kinds.ps record_words.whole_five.Kinds.r record_words.whole_five.Reads.Pre record_words.whole_five.Reads.Learnt
-whole_five _ _ _ h g = cc
+pub whole_number : (n : ℕ) (fits : Fits w64 n) → Settled (record_words.whole_number.Kinds.ps n fits) (record_words.whole_number.Kinds.r n fits) (record_words.whole_number.Reads.Pre n fits) (record_words.whole_number.Reads.Learnt n fits)
+whole_number _ _ _ _ _ h g = cc
 
-pub five_of : Settled record_words.five_of.Kinds.ps record_words.five_of.Kinds.r record_words.five_of.Reads.Pre record_words.five_of.Reads.Learnt
-five_of _ _ _ h g = cc
-
-pub word_of : Settled record_words.word_of.Kinds.ps record_words.word_of.Kinds.r record_words.word_of.Reads.Pre record_words.word_of.Reads.Learnt
-word_of _ _ _ h g = cc
+pub number_of : (n : ℕ) (fits : Fits w64 n) → Settled (record_words.number_of.Kinds.ps n fits) (record_words.number_of.Kinds.r n fits) (record_words.number_of.Reads.Pre n fits) (record_words.number_of.Reads.Learnt n fits)
+number_of _ _ _ _ _ h g = cc
 
 pub bytes_of : Settled record_word_bytes.bytes_of.Kinds.ps record_word_bytes.bytes_of.Kinds.r record_word_bytes.bytes_of.Reads.Pre record_word_bytes.bytes_of.Reads.Learnt
 bytes_of _ _ _ h g = cc
@@ -49,13 +49,13 @@ pub row_zero : Settled record_row_ranges.row_zero.Kinds.ps record_row_ranges.row
 row_zero _ _ _ h g = cc
 
 pub row_field : Settled record_row_ranges.row_field.Kinds.ps record_row_ranges.row_field.Kinds.r record_row_ranges.row_field.Reads.Pre record_row_ranges.row_field.Reads.Learnt
-row_field _ _ _ h g = cc
+row_field _ b d h g = one_row_field b.value d.value (h ∙ sym g)
 
 pub row_good : Settled record_row_ranges.row_good.Kinds.ps record_row_ranges.row_good.Kinds.r record_row_ranges.row_good.Reads.Pre record_row_ranges.row_good.Reads.Learnt
 row_good _ _ _ h g = cc
 
 pub pile_refusal : Settled record_pile_ranges.pile_refusal.Kinds.ps record_pile_ranges.pile_refusal.Kinds.r record_pile_ranges.pile_refusal.Reads.Pre record_pile_ranges.pile_refusal.Reads.Learnt
-pile_refusal _ _ _ h g = cc
+pile_refusal _ b d h g = one_check b.value d.value (h ∙ sym g)
 
 pub no_row : Settled record_rows.no_row.Kinds.ps record_rows.no_row.Kinds.r record_rows.no_row.Reads.Pre record_rows.no_row.Reads.Learnt
 no_row _ _ _ h g = cc
@@ -70,10 +70,10 @@ pub row_bytes : Settled record_row_bytes.row_bytes.Kinds.ps record_row_bytes.row
 row_bytes _ _ _ h g = cc
 
 pub row_limit : Settled record_lengths.row_limit.Kinds.ps record_lengths.row_limit.Kinds.r record_lengths.row_limit.Reads.Pre record_lengths.row_limit.Reads.Learnt
-row_limit _ _ _ h g = cc
+row_limit _ b d h g = one_limit _ b.value d.value (h.0 ∙ sym g.0) h.1 g.1
 
 pub table_limit : Settled record_lengths.table_limit.Kinds.ps record_lengths.table_limit.Kinds.r record_lengths.table_limit.Reads.Pre record_lengths.table_limit.Reads.Learnt
-table_limit _ _ _ h g = cc
+table_limit _ b d h g = one_limit _ b.value d.value (h.0 ∙ sym g.0) h.1 g.1
 
 pub pile_length_wrong : Settled record_lengths.pile_length_wrong.Kinds.ps record_lengths.pile_length_wrong.Kinds.r record_lengths.pile_length_wrong.Reads.Pre record_lengths.pile_length_wrong.Reads.Learnt
 pile_length_wrong _ _ _ h g = cc
@@ -82,7 +82,7 @@ pub lengths_wrong : Settled record_lengths.lengths_wrong.Kinds.ps record_lengths
 lengths_wrong _ _ _ h g = cc
 
 pub row_refusal : Settled record_log_checks.row_refusal.Kinds.ps record_log_checks.row_refusal.Kinds.r record_log_checks.row_refusal.Reads.Pre record_log_checks.row_refusal.Reads.Learnt
-row_refusal _ _ _ h g = cc
+row_refusal _ b d h g = one_fault b.value d.value (h ∙ sym g)
 
 pub count_wrong : Settled record_unused.count_wrong.Kinds.ps record_unused.count_wrong.Kinds.r record_unused.count_wrong.Reads.Pre record_unused.count_wrong.Reads.Learnt
 count_wrong _ _ _ h g = cc
@@ -91,13 +91,13 @@ pub unused_wrong : Settled record_unused.unused_wrong.Kinds.ps record_unused.unu
 unused_wrong _ _ _ h g = cc
 
 pub check_content : Settled record_log_checks.check_content.Kinds.ps record_log_checks.check_content.Kinds.r record_log_checks.check_content.Reads.Pre record_log_checks.check_content.Reads.Learnt
-check_content _ _ _ h g = cc
+check_content _ b d h g = one_outcome _ b.value d.value (h.0 ∙ sym g.0) h.1 g.1
 
 pub read_log : Settled record_logs.read_log.Kinds.ps record_logs.read_log.Kinds.r record_logs.read_log.Reads.Pre record_logs.read_log.Reads.Learnt
 read_log _ _ _ h g = cc
 
 pub pack_log : Settled record_packing.pack_log.Kinds.ps record_packing.pack_log.Kinds.r record_packing.pack_log.Reads.Pre record_packing.pack_log.Reads.Learnt
-pack_log _ _ _ h g = (cc, cc)
+pack_log _ b d h g = (one_check b.value d.value (h.0 ∙ sym g.0), cc)
 
 pub take_pile : Settled record_piles.take_pile.Kinds.ps record_piles.take_pile.Kinds.r record_piles.take_pile.Reads.Pre record_piles.take_pile.Reads.Learnt
 take_pile _ _ _ h g = cc
@@ -106,7 +106,7 @@ pub read_pile : Settled record_piles.read_pile.Kinds.ps record_piles.read_pile.K
 read_pile _ _ _ h g = cc
 
 pub pack_pile : Settled record_pile_bytes.pack_pile.Kinds.ps record_pile_bytes.pack_pile.Kinds.r record_pile_bytes.pack_pile.Reads.Pre record_pile_bytes.pack_pile.Reads.Learnt
-pack_pile _ _ _ h g = (cc, cc)
+pack_pile _ b d h g = (one_check b.value d.value (h.0 ∙ sym g.0), cc)
 
 pub read_slice : Settled record_slices.read_slice.Kinds.ps record_slices.read_slice.Kinds.r record_slices.read_slice.Reads.Pre record_slices.read_slice.Reads.Learnt
 read_slice _ _ _ h g = cc
@@ -119,6 +119,3 @@ clear_table _ _ _ h g = (refl, cc)
 
 pub put_slice : Settled record_slice_table.put_slice.Kinds.ps record_slice_table.put_slice.Kinds.r record_slice_table.put_slice.Reads.Pre record_slice_table.put_slice.Reads.Learnt
 put_slice _ _ _ h g = (refl, cc)
-
-pub sand_given : Settled record_sand.sand_given.Kinds.ps record_sand.sand_given.Kinds.r record_sand.sand_given.Reads.Pre record_sand.sand_given.Reads.Learnt
-sand_given _ _ _ h g = cc
