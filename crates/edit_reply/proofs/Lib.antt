@@ -1,2 +1,3 @@
 -- Laws of the reply.
 pub mod ReplyLaws
+pub mod KindLaws

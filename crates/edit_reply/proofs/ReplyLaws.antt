@@ -4,44 +4,35 @@ use Rattle.std.specs.Prelude.{Option}
 use mathlib.Core.Path.{◌≡◌, sym, ◌∙◌, ap}
 use mathlib.Core.Bool.{true, false}
 use mathlib.Core.List.{List}
-use Prim.Native.Nat.{ℕ, ◌<◌, ◌≤◌}
+use Prim.Native.Nat.{ℕ}
 use lib.ListN.{length}
-use borrow.Author.Tests.{lt-ltb, le-ltb}
-use Rattle.rules.specs.declared.Refusal.{Refusal}
+use Rattle.rules.specs.declared.faults.Fault.{Fault}
 use Rattle.rules.specs.declared.Answer.{Answer}
 use Rattle.rules.specs.Base.{refuses, when, first}
 use Rattle.rules.specs.Records.{row_size}
 use Rattle.rules.specs.Limits.{limit_of, table_size}
 use Rattle.rules.specs.Packed.{rows_of}
 use Rattle.rules.specs.Ground.{depth_of}
-use Rattle.rules.specs.Edits.{Edit, brings, edited_log}
+use Rattle.rules.specs.Edits.{Edit, brings, edited_rows, edited_log}
 use Rattle.rules.specs.Checks.{formless, Passed, edit_lengths_wrong, edit_checks, Accepted}
+use Rattle.rules.specs.Faults.{refusal_of}
 use Rattle.rules.specs.Answers.{refused}
 use Rattle.rules.specs.Calculation.{fresh_table}
 use Rattle.rules.specs.EditReplies.{edit_answer, edit_reply, edit_log, edit_table}
 use Rattle.rules.proofs.Groups.{content_checks, change_checks, edit_grouped, log_grouped}
 use Rattle.rules.proofs.RefusalLaws.{first_off, first_none, when_off, when_false, either_left}
 use Rattle.rules.proofs.EditLaws.{Left, left, free}
-use Rattle.record_log_checks.specs.declared.Checked.{Checked}
-use Rattle.edit_checks.specs.Checked.{edit_checked}
+use Rattle.answer_work.proofs.WorkLaws.{fault_refuses}
 use Rattle.answer_calculation.proofs.CheckedLaws.{Long, long}
 use Rattle.edit_checks.proofs.RowChecks.{brought}
 use Rattle.edit_changes.proofs.ChangeLaws.{ready}
 
--- the refusal that the checks reply
-pub said : (e : Edit) (log pile table : List ℕ) (r : Checked) → r ≡ edit_checked e log pile table → r.refusal ≡ edit_checks e log pile table
-unfolding edit_checked
-said e log pile table r h = ap (λ (x : Checked). x.refusal) h
-
-pub nothing_said : (e : Edit) (log pile table : List ℕ) (r : Checked) → r ≡ edit_checked e log pile table → r.refusal.number ≤ 0 → Accepted e log pile table
-nothing_said e log pile table r h n = ap refuses (sym (said e log pile table r h)) ∙ le-ltb 0 r.refusal.number n
-
 -- "A refused edit .. changes no buffer."
-pub refused_edit_lem : (e : Edit) (log pile : List ℕ) (extra : Option SandNumbers) (table : List ℕ) (w : Refusal) (a : Answer) → w ≡ edit_checks e log pile table → 0 < w.number → a ≡ refused w
+pub refused_edit_lem : (e : Edit) (log pile : List ℕ) (extra : Option SandNumbers) (table : List ℕ) (fault : Fault) (a : Answer) → refusal_of fault ≡ edit_checks e log pile table → a ≡ refused (refusal_of fault)
     → (a ≡ edit_reply e log pile extra table) × ((log ≡ edit_log e log pile table) × (table ≡ edit_table e log pile extra table))
 unfolding edit_reply edit_log edit_table
-refused_edit_lem e log pile extra table w a h n f =
-    let r : refuses (edit_checks e log pile table) ≡ true = ap refuses (sym h) ∙ lt-ltb 0 w.number n in
+refused_edit_lem e log pile extra table fault a h f =
+    let r : refuses (edit_checks e log pile table) ≡ true = ap refuses (sym h) ∙ fault_refuses fault in
     (f ∙ ap refused h ∙ rw r, (rw r, rw r))
 
 -- an accepted edit: what was lent, and the log that it leaves
@@ -72,9 +63,8 @@ module _ (e : Edit) (log pile table : List ℕ) (none : Accepted e log pile tabl
   pub now_passed : Passed s
   now_passed = rw f (allowed e log pile table none).left.passed
 
-  pub now_deep : (r : Checked) → r ≡ edit_checked e log pile table → r.depth ≡ depth_of (rows_of s)
-  unfolding edit_checked
-  now_deep r h = ap (λ (x : Checked). x.depth) h ∙ rw (none, f, (allowed e log pile table none).left.rows)
+  pub now_deep : (d : ℕ) → d ≡ depth_of (edited_rows e (rows_of log)) → d ≡ depth_of (rows_of s)
+  now_deep d h = h ∙ rw (f, (allowed e log pile table none).left.rows)
 
   pub now_long : length table ≡ table_size (limit_of s)
   now_long = let a = allowed e log pile table none in rw (f, a.left.limit) a.lent.size

@@ -2,10 +2,13 @@
 #![tactic(auto)]
 
 ghost use Rattle.std.specs.Prelude.{◌≡◌};
-ghost use Rattle.rules.specs.Edits.{asked};
 ghost use Rattle.rules.specs.EditReplies.{edit_reply, edit_log, edit_table};
+ghost use Rattle.edit_naming.specs.Asked.{edit_of};
 
-use rules::{Answer, SandNumbers};
+use edit_changes::change;
+use edit_checks::check_edit;
+use edit_hold::hold;
+use rules::{Answer, Refusal, SandNumbers};
 
 // An edit of a log, with a pile record and its extra record, a slice table and a new row of any lengths: the reply, and the log and table afterwards.
 pub fn edit(
@@ -13,20 +16,17 @@ pub fn edit(
     pile: &[u8],
     extra: Option<SandNumbers>,
     table: &mut [u8],
-    kind: u32,
-    k: u32,
-    x: u32,
-    row: &[u8],
+    edit: edit_naming::Edit<'_>,
 ) -> Answer
-    ensures reply { result ≡ edit_reply (asked kind k x row.now) log.old pile.now extra table.old }
-    ensures log { log.new ≡ edit_log (asked kind k x row.now) log.old pile.now table.old }
-    ensures table { table.new ≡ edit_table (asked kind k x row.now) log.old pile.now extra table.old }
+    ensures reply { result ≡ edit_reply (edit_of edit.entry) log.old pile.now extra table.old }
+    ensures log { log.new ≡ edit_log (edit_of edit.entry) log.old pile.now table.old }
+    ensures table { table.new ≡ edit_table (edit_of edit.entry) log.old pile.now extra table.old }
 {
-    let checked = edit_checks::check_edit(log, pile, table, kind, k, x, row);
-    let refusal = checked.refusal;
-    if 0 < refusal.number {
-        return base_replies::refused(refusal);
+    match check_edit(log, pile, table, edit) {
+        Ok(depth) => {
+            change(log, edit);
+            hold(log, depth, pile, extra, table)
+        }
+        Err(fault) => Answer::from(Refusal::from(fault)),
     }
-    edit_changes::change(log, kind, k, x, row);
-    edit_hold::hold(log, checked.depth, pile, extra, table)
 }
