@@ -70,6 +70,7 @@ pub fn work_out(
     table: &mut [u8],
 ) -> Result<Worked, Fault>
     requires { Passed log.now × (depth ≡ depth_of (rows_of log.now)) × (table_size (limit_of log.now) ≤ length table.old) }
+    ensures refusal { refusal_in result ≡ ground_checks (soil_at (rows_of log.now)) (depth_of (rows_of log.now)) (pile_of pile.now) extra }
     ensures worked { (answer_in result ≡ fresh_answer log.now pile.now extra) × (used_in result ≡ length (held_slices_of (rows_of log.now) (pile_of pile.now) extra)) }
     ensures table { table.new ≡ table_bytes (length table.old) (held_slices_of (rows_of log.now) (pile_of pile.now) extra) }
 {
