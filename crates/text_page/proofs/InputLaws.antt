@@ -1,5 +1,6 @@
 -- The form of an input by its length, the log and the pile record that it is cut into, and that the table of their calculation holds their slices.
-use Rattle.std.specs.Prelude.{None}
+use Rattle.std.specs.Prelude.{Option, Some, None, unwrap_or, IfSome}
+use Rattle.std.specs.Option.{option_or}
 use mathlib.Core.Path.{◌≡◌, refl, sym, ◌∙◌, ap}
 use mathlib.Core.Bool.{Bool, true, false}
 use mathlib.Core.Logic.{⊎_elim, inl, inr}
@@ -13,7 +14,7 @@ use borrow.Author.Tests.{eqb-true, eqb-false, eq-eqb, ne_eqb}
 use Rattle.rules.specs.declared.Answer.{Answer}
 use Rattle.rules.specs.declared.Slice.{Slice}
 use Rattle.rules.specs.Base.{pick, refuses, when}
-use Rattle.rules.specs.Limits.{forms, log_size, table_size, form_by, limit_of, table_limit}
+use Rattle.rules.specs.Limits.{row_limit, forms, log_size, table_size, form_by, limit_of, table_limit}
 use Rattle.rules.specs.Packed.{rows_of, pile_of}
 use Rattle.rules.specs.Checks.{lengths_wrong, lent_checks}
 use Rattle.rules.specs.Calculation.{held_slices_of, fresh_table, calculated, table_after}
@@ -25,6 +26,17 @@ use Rattle.text_lines.specs.Lines.{Holds}
 use Rattle.text_page.specs.Pages.{page_size}
 use Rattle.text_page.specs.Places.{TableOf, Printable}
 use Rattle.ground_cuts.proofs.FitLaws.{rows_fit}
+
+-- the form told by a length without a grade, else that by one with a grade
+pub first_form : (plain graded : Option ℕ) (m n : ℕ) → unwrap_or plain 0 ≡ m → unwrap_or graded 0 ≡ n → IfSome plain (λ limit. (0 < limit) × (limit ≤ row_limit))
+    → unwrap_or (option_or plain graded) 0 ≡ pick (eqb m 0) n m
+first_form None graded m n e f h = rw (← e) f
+first_form (Some limit) graded m n e f h = rw (← e, ne_eqb limit 0 (λ z. omega (arith, h.0))) refl
+
+-- and no form's limit is above that of the longest
+pub limit_most : (told : Option ℕ) → IfSome told (λ limit. (0 < limit) × (limit ≤ row_limit)) → unwrap_or told 0 ≤ row_limit
+limit_most None h = omega arith
+limit_most (Some limit) h = h.1
 
 -- a log with a pile record of so many bytes behind it: its form is told by the length less that of the record
 pub behind : (size : ℕ) (ns : List ℕ) (len : ℕ) → form_by log_size ns (len - size) ≡ form_by (λ n. log_size n + size) ns len

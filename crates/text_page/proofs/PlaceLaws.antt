@@ -36,15 +36,6 @@ read_in : (t : List ℕ) (i : ℕ) → 0 < table_limit t → i < places_for (tab
 unfolding read_slice
 read_in t i f h = rw (ne_eqb (table_limit t) 0 (λ e. omega arith), lt-ltb i (places_for (table_limit t)) h)
 
--- a place that shows some thickness is one of the table
-pub place_some : (t : List ℕ) (i : ℕ) (c : Slice) → c ≡ (read_slice t i).slice → (c.thickness ≡ 0 → ⊥) → i < place_limit
-unfolding table_limit
-place_some t i c e h =
-    let m : table_limit t ≤ row_limit = form_most table_size (length t) in
-    ⊎_elim (λ (g : i < places_for (table_limit t)). omega arith)
-    (λ (g : places_for (table_limit t) ≤ i). absurd (h (ap (λ (x : Slice). x.thickness) (e ∙ read_past t i g))))
-    (split i (places_for (table_limit t)))
-
 slice_some : (cs : List Slice) (i : ℕ) → SlicesFit cs → i < length cs → 0 < (get_or cs i no_slice).thickness
 slice_some [] i f h = absurd (omega arith)
 slice_some (c ∷ cs) zero f h = f.0
@@ -54,6 +45,10 @@ module _ (cs : List Slice) (t : List ℕ) (g : TableOf cs t) where
   few : length cs ≤ places_for (table_limit t)
   unfolding table_bytes
   few = omega (arith, bytes_long cs, length-append (slices_bytes cs) (replicate (length t - length cs * slice_size) 0), ap length g.bytes, table_long t g.form)
+
+  pub few_places : length cs ≤ place_limit
+  unfolding table_limit
+  few_places = let m : table_limit t ≤ row_limit = form_most table_size (length t) in omega (arith, few)
 
   -- c is what place i shows: slices end where no thickness is read
   module _ (i : ℕ) (c : Slice) (e : c ≡ (read_slice t i).slice) where

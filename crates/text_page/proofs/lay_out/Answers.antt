@@ -1,48 +1,57 @@
 -- The page begins with the answer line; each slice of the table adds a line, and at the first place of none the total line ends it.
-use Rattle.std.proofs.Common.{◌<◌, ap, lt-ltb, le-ltb, arith}
+use Rattle.std.proofs.Common.{◌≤◌, ◌∙◌, ap, lt-ltb, le-ltb, length, arith}
 use Rattle.rules.specs.declared.SliceRead.{SliceRead}
-use Rattle.rules.specs.Limits.{place_limit}
 use Rattle.rules.specs.Reading.{no_slice}
 use Rattle.text_lines.proofs.SheetLaws.{sheet_begun, sheet_more, sheet_ended, sheet_refused}
 use Rattle.text_page.specs.Pages.{page_size}
 use Rattle.text_page.proofs.PageLaws.{page_long, shown_table}
-use Rattle.text_page.proofs.PlaceLaws.{place_some, place_is, slice_here, slice_none}
+use Rattle.text_page.proofs.PlaceLaws.{few_places, place_is, slice_here, slice_none}
+use Rattle.text_page.proofs.lay_out.Goals.{else-loop-place-test, then-loop-place-test+then-slice-eq0}
 use Rattle.text_page.proofs.lay_out.Goals as goal
 
-pub returns-then-refusal-gt0 : goal.returns-then-refusal-gt0
-returns-then-refusal-gt0 c =
+pub returns-then-answer-gt0-clause-sheet : goal.returns-then-answer-gt0-clause-sheet
+returns-then-answer-gt0-clause-sheet c =
     let a = c.args.answer in
-    λ cs t. sheet_refused a cs (lt-ltb 0 _ c.if-refusal-gt0.true) (sheet_begun a cs page_size c.requires c.print_answer-at.ensures.0 (omega arith))
+    let line = c.print_answer.ensures in
+    λ cs t. sheet_refused a cs (lt-ltb 0 _ c.if-answer-gt0.true)
+      (sheet_begun a cs page_size c.requires.zeros (rw c.requires.front at line.put.put) (omega (arith, line.short)))
 
-pub loop-slice-init : goal.loop-slice-init
-loop-slice-init c =
-    let line = c.print_answer-at in (
-      omega arith,
-      omega (arith, page_long _ c.requires),
-      omega arith,
-      λ cs t. sheet_begun c.args.answer cs page_size c.requires line.ensures.0 (omega arith),
-    )
+pub loop-place-init : goal.loop-place-init
+loop-place-init c =
+    let line = c.print_answer.ensures in
+    record {
+      same_buffer = line.put.same_buffer;
+      long = line.put.long ∙ page_long _ c.requires.zeros;
+      short = omega (arith, line.short);
+      lines = λ cs t. sheet_begun c.args.answer cs page_size c.requires.zeros (rw c.requires.front at line.put.put) (omega (arith, line.short));
+    }
 
-pub returns-then-slice-eq0 : goal.returns-then-slice-eq0
-returns-then-slice-eq0 c =
+pub loop-place-preserved : goal.loop-place-preserved
+loop-place-preserved c =
+    let line = c.print_slice.ensures in
+    let start = c.loop-place in
+    let e = ap (λ (x : SliceRead). x.slice) c.read_slice.ensures in
+    record {
+      same_buffer = line.put.same_buffer ∙ start.invariant.same_buffer;
+      long = line.put.long ∙ start.invariant.long;
+      short = omega (arith, line.short, start.invariant.short);
+      lines = λ cs t.
+          sheet_more c.args.answer cs start.place no_slice (slice_here cs _ t start.place _ e c.if-slice-eq0.false) (start.invariant.lines cs t)
+          (rw (place_is cs _ t start.place _ e) at line.put.put) (omega (arith, line.short, start.invariant.short));
+    }
+
+pub returns-clause-sheet : goal.returns-clause-sheet
+returns-clause-sheet c =
     let a = c.args.answer in
-    let l = c.loop-slice in
-    let e = ap (λ (x : SliceRead). x.slice) c.read_slice-read.ensures in
+    let end = c.loop-place in
+    let line = c.print_total.ensures in
     λ cs s.
-    let t = shown_table a _ cs c.if-refusal-gt0.false s in
-    sheet_ended a cs l.place (slice_none cs _ t l.place _ e c.if-slice-eq0.true) (le-ltb 0 _ c.if-refusal-gt0.false) (l.invariant.3 cs t)
-    c.print_total.ensures.0 (omega (arith, l.invariant.0, l.invariant.2, c.print_total.ensures.1))
-
-pub loop-slice-preserved : goal.loop-slice-preserved
-loop-slice-preserved c =
-    let line = c.print_slice-at in
-    let l = c.loop-slice in
-    let e = ap (λ (x : SliceRead). x.slice) c.read_slice-read.ensures in
-    let k : l.place < place_limit = place_some _ l.place _ e c.if-slice-eq0.false in (
-      omega arith,
-      omega (arith, l.invariant.1),
-      omega (arith, l.invariant.2, line.ensures.1),
-      λ cs t.
-          sheet_more c.args.answer cs l.place no_slice (slice_here cs _ t l.place _ e c.if-slice-eq0.false) (l.invariant.3 cs t)
-          (rw (place_is cs _ t l.place _ e) at line.ensures.0) (omega (arith, l.invariant.2, line.ensures.1)),
-    )
+    let t = shown_table a _ cs c.if-answer-gt0.false s in
+    let shown : length cs ≤ end.place =
+        elim c.loop-place-test.branch [
+          else-loop-place-test w ↦ omega (arith, few_places cs _ t, w.loop-place-test.false)
+        | then-loop-place-test+then-slice-eq0 w ↦
+            slice_none cs _ t end.place _ (ap (λ (x : SliceRead). x.slice) w.read_slice.ensures) w.if-slice-eq0.true
+        ] in
+    sheet_ended a cs end.place shown (le-ltb 0 _ c.if-answer-gt0.false) (end.invariant.lines cs t) line.put.put
+    (omega (arith, line.short, end.invariant.short))
