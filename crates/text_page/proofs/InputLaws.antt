@@ -5,12 +5,12 @@ use mathlib.Core.Path.{◌≡◌, refl, sym, ◌∙◌, ap}
 use mathlib.Core.Bool.{Bool, true, false}
 use mathlib.Core.Logic.{⊎_elim, inl, inr}
 use mathlib.Core.List.{List, [], ◌∷◌}
-use Prim.Native.Nat.{ℕ, ◌+◌, ◌-◌, ◌<◌, ◌≤◌, min}
+use Prim.Native.Nat.{ℕ, ◌<◌, ◌≤◌, min}
 use native.Mathlib.Omega.{arith}
 use lib.Dec.{eqb}
 use lib.ListN.{length, take, drop, replicate, drop_of_length-le}
 use lib.Seq.{take_all}
-use borrow.Author.Tests.{eqb-true, eqb-false, eq-eqb, ne_eqb}
+use borrow.Author.Tests.{eqb-true, eq-eqb, ne_eqb}
 use Rattle.rules.specs.declared.Answer.{Answer}
 use Rattle.rules.specs.declared.Slice.{Slice}
 use Rattle.rules.specs.Base.{pick, refuses, when}
@@ -37,18 +37,6 @@ first_form (Some limit) graded m n e f h = rw (← e, ne_eqb limit 0 (λ z. omeg
 pub limit_most : (told : Option ℕ) → IfSome told (λ limit. (0 < limit) × (limit ≤ row_limit)) → unwrap_or told 0 ≤ row_limit
 limit_most None h = omega arith
 limit_most (Some limit) h = h.1
-
--- a log with a pile record of so many bytes behind it: its form is told by the length less that of the record
-pub behind : (size : ℕ) (ns : List ℕ) (len : ℕ) → form_by log_size ns (len - size) ≡ form_by (λ n. log_size n + size) ns len
-behind size [] len = refl
-behind size (n ∷ ns) len = rw (test, behind size ns len)
-  where
-    test : eqb (len - size) (log_size n) ≡ eqb len (log_size n + size)
-    test =
-        ⊎_elim
-        (λ (h : eqb (len - size) (log_size n) ≡ true). h ∙ sym (eq-eqb len (log_size n + size) (omega (arith, eqb-true (len - size) (log_size n) h))))
-        (λ (h : eqb (len - size) (log_size n) ≡ false). h ∙ sym (ne_eqb len (log_size n + size) (λ e. eqb-false (len - size) (log_size n) h (omega arith))))
-        (sure (eqb (len - size) (log_size n)))
 
 -- the cut at the end of the log, also where the input is shorter
 pub cut_same : (s : List ℕ) (k end : ℕ) → end ≡ min k (length s) → (take end s ≡ take k s) × (drop end s ≡ drop k s)

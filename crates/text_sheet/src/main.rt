@@ -26,7 +26,5 @@ fn main(rt: HostRuntime) -> io::Result<()> {
     let mut input = [0u8; INPUT_SIZE];
     let n = read_full(&mut rt.reader(), &mut input)?;
     let page = text_page::sheet(&input[..n]);
-    let bytes = page.bytes;
-    let len = page.len;
-    rt.write_all(&bytes[..len])
+    rt.write_all(&page.bytes[..page.len])
 }

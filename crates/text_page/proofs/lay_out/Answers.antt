@@ -14,7 +14,7 @@ returns-then-answer-gt0-clause-sheet c =
     let a = c.args.answer in
     let line = c.print_answer.ensures in
     λ cs t. sheet_refused a cs (lt-ltb 0 _ c.if-answer-gt0.true)
-      (sheet_begun a cs page_size c.requires.zeros (rw c.requires.front at line.put.put) (omega (arith, line.short)))
+    (sheet_begun a cs page_size c.requires.zeros (rw c.requires.front at line.put.put) (omega (arith, line.short)))
 
 pub loop-place-init : goal.loop-place-init
 loop-place-init c =
@@ -48,10 +48,10 @@ returns-clause-sheet c =
     λ cs s.
     let t = shown_table a _ cs c.if-answer-gt0.false s in
     let shown : length cs ≤ end.place =
-        elim c.loop-place-test.branch [
-          else-loop-place-test w ↦ omega (arith, few_places cs _ t, w.loop-place-test.false)
-        | then-loop-place-test+then-slice-eq0 w ↦
-            slice_none cs _ t end.place _ (ap (λ (x : SliceRead). x.slice) w.read_slice.ensures) w.if-slice-eq0.true
-        ] in
+    elim c.loop-place-test.branch [
+      | else-loop-place-test w ↦ omega (arith, few_places cs _ t, w.loop-place-test.false)
+      | then-loop-place-test+then-slice-eq0 w ↦
+          slice_none cs _ t end.place _ (ap (λ (x : SliceRead). x.slice) w.read_slice.ensures) w.if-slice-eq0.true
+    ] in
     sheet_ended a cs end.place shown (le-ltb 0 _ c.if-answer-gt0.false) (end.invariant.lines cs t) line.put.put
     (omega (arith, line.short, end.invariant.short))
