@@ -13,25 +13,13 @@ use record_slice_table::clear_table;
 use rules::{Pile, Soil};
 
 // How many slices a shaft has, the sum of friction × thickness × factor, the soil below the tip and the top of its stratum.
-#[derive(Clone, Copy)]
+#[derive(Clone, Copy, Default)]
 pub struct Shaft {
     pub used: usize,
     pub sum: u64,
     pub soil: Soil,
     pub top: u64,
 }
-
-// No slice yet.
-const NOTHING_CUT: Shaft = Shaft {
-    used: 0,
-    sum: 0,
-    soil: Soil {
-        kind: 0,
-        index: 0,
-        saturation: 0,
-    },
-    top: 0,
-};
 
 // The part of each stratum between head and tip, cut from its top. A table has places for every shaft, so nothing counts them.
 pub fn cut_shaft(log: &[u8], pile: Pile, table: &mut [u8]) -> Shaft
@@ -43,7 +31,7 @@ pub fn cut_shaft(log: &[u8], pile: Pile, table: &mut [u8]) -> Shaft
     let rows = norm_friction::rows();
     let head = u64::from(pile.head);
     let tip = u64::from(pile.tip);
-    let mut shaft = NOTHING_CUT;
+    let mut shaft = Shaft::default();
     for stratum in Strata::down_to(log, tip) {
         let from = head.max(stratum.top);
         let end = tip.min(stratum.bottom);

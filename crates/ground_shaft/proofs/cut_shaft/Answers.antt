@@ -1,5 +1,5 @@
 -- A turn cuts the next stratum's part of the shaft; at the end the tip stands on the last of them.
-use Rattle.std.proofs.Common.{refl, ◌∙◌, ap, arith}
+use Rattle.std.proofs.Common.{◌∙◌, ap, arith}
 use Rattle.ground_strata.specs.Strata.{from_ground}
 use Rattle.ground_shaft.proofs.CutLaws.{doing_none, doing_room, doing_more, all, all_bytes}
 use Rattle.ground_shaft.proofs.cut_shaft.Goals as goal
@@ -7,7 +7,7 @@ use Rattle.ground_shaft.proofs.cut_shaft.Goals as goal
 pub loop-stratum-init : goal.loop-stratum-init
 loop-stratum-init c =
     let from_start = c.into_iter-stratum-iterator.ensures.into_iter_gives ∙ c.down_to-stratum-items.ensures in
-    doing_none _ _ _ _ _ _ c.requires c.clear_table.ensures refl refl (from_start ∙ ap (from_ground c.args.log) c.from-tip.ensures)
+    doing_none _ _ _ _ _ _ c.requires c.clear_table.ensures c.default-shaft.ensures.0 c.default-shaft.ensures.1.0 (from_start ∙ ap (from_ground c.args.log) c.from-tip.ensures)
 
 pub cut_part-part-requires : goal.cut_part-part-requires
 cut_part-part-requires c =
