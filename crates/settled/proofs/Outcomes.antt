@@ -110,6 +110,17 @@ one_check (Ok a) (Err g) h = absurd (false≢true (ap is_some (sym (told (Ok a))
 one_check (Err f) (Ok b) h = absurd (true≢false (ap is_some (sym (told {A = Unit {0}} (Err f)) ∙ ap fault_from h ∙ told (Ok b))))
 one_check (Err f) (Err g) h = ap Err (one_fault f g h)
 
+-- two replies with one refusal whose values are one where both have one
+module _ {A : Type 0} where
+  one_by_value : (r q : Result A Fault) → fault_in r ≡ fault_in q → ((a b : A) → r ≡ Ok a → q ≡ Ok b → a ≡ b) → r ≡ q
+  one_by_value (Ok a) (Ok b) s e = ap Ok (e a b refl refl)
+  one_by_value (Ok a) (Err g) s e = absurd (false≢true (ap is_some s))
+  one_by_value (Err f) (Ok b) s e = absurd (true≢false (ap is_some s))
+  one_by_value (Err f) (Err g) s e = ap Err (same_some s)
+
+  pub one_reply : (r q : Result A Fault) → refusal_in r ≡ refusal_in q → ((a b : A) → r ≡ Ok a → q ≡ Ok b → a ≡ b) → r ≡ q
+  one_reply r q h = one_by_value r q (sym (told r) ∙ ap fault_from h ∙ told q)
+
 -- a limit is above 0 and at most n
 module _ (n : ℕ) where
   pub one_limit : (r q : Option ℕ) → unwrap_or r 0 ≡ unwrap_or q 0 → IfSome r (λ l. (0 < l) × (l ≤ n)) → IfSome q (λ l. (0 < l) × (l ≤ n)) → r ≡ q
