@@ -2,82 +2,71 @@
 ghost use Rattle.std.specs.Prelude.{◌<◌};
 
 use rules::{Log, Pile, ROW_LIMIT, Row, Slice};
+use std::array;
 use std::io::{self, Read};
+
+// As many bytes as a case has: those that follow its head, and zeros.
+pub(crate) const GIVEN_SIZE: usize = 600;
+
+pub(crate) type Given = [u8; GIVEN_SIZE];
 
 // The next byte of standard input, 0 at its end.
 pub(crate) fn next_byte(input: &mut impl Read) -> io::Result<u8> {
-    match input.by_ref().bytes().next() {
-        Some(b) => b,
-        None => Ok(0),
-    }
+    input.by_ref().bytes().next().unwrap_or(Ok(0))
 }
 
 pub(crate) fn next_wide(input: &mut impl Read) -> io::Result<u16> {
     let high = next_byte(input)?;
     let low = next_byte(input)?;
-    Ok(high as u16 * 256 + low as u16)
-}
-
-// Byte i, 0 past the end.
-fn byte(s: &[u8], i: usize) -> u8 {
-    if i < s.len() {
-        return s[i];
-    }
-    0
+    Ok(u16::from_be_bytes([high, low]))
 }
 
 // Two bytes from i on, as one number.
-pub(crate) fn wide(s: &[u8], i: usize) -> u16
-    requires { i < 600 }
+pub(crate) fn wide(given: &Given, i: usize) -> u16
+    requires { i < 599 }
 {
-    byte(s, i) as u16 * 256 + byte(s, i + 1) as u16
+    u16::from_be_bytes([given[i], given[i + 1]])
 }
 
 // Six bytes from i on: thickness in two, then one for each field.
-pub(crate) fn row_given(s: &[u8], i: usize) -> Row
+pub(crate) fn row_given(given: &Given, i: usize) -> Row
     requires { i < 500 }
 {
     Row {
-        thickness: wide(s, i),
-        kind: byte(s, i + 2),
-        index: byte(s, i + 3),
-        saturation: byte(s, i + 4),
-        zero: byte(s, i + 5),
+        thickness: wide(given, i),
+        kind: given[i + 2],
+        index: given[i + 3],
+        saturation: given[i + 4],
+        zero: given[i + 5],
     }
 }
 
 // The count, and six bytes for each place.
-pub(crate) fn log_given(s: &[u8]) -> Log {
-    let n = byte(s, 0);
-    let mut l = Log {
-        count: n,
-        rows: [record_rows::no_row(); ROW_LIMIT],
-    };
-    for i in 0..ROW_LIMIT {
-        let row = row_given(s, 1 + i * 6);
-        l.rows[i] = row;
+pub(crate) fn log_given(given: &Given) -> Log {
+    Log {
+        count: given[0],
+        rows: array::from_fn::<_, ROW_LIMIT, _>(|i| row_given(given, 1 + i * 6)),
     }
-    l
 }
 
-pub(crate) fn pile_given(s: &[u8]) -> Pile {
+pub(crate) fn pile_given(given: &Given) -> Pile {
     Pile {
-        section: byte(s, 0),
-        a: wide(s, 1),
-        b: wide(s, 3),
-        method: byte(s, 5),
-        head: wide(s, 6),
-        tip: wide(s, 8),
-        zero: byte(s, 10),
-        grade: wide(s, 11),
+        section: given[0],
+        a: wide(given, 1),
+        b: wide(given, 3),
+        method: given[5],
+        head: wide(given, 6),
+        tip: wide(given, 8),
+        zero: given[10],
+        grade: wide(given, 11),
     }
 }
 
-pub(crate) fn slice_given(s: &[u8]) -> Slice {
+pub(crate) fn slice_given(given: &Given) -> Slice {
     Slice {
-        top: wide(s, 0),
-        thickness: wide(s, 2),
-        friction: wide(s, 4) as u32 * 65536 + wide(s, 6) as u32,
-        factor: byte(s, 8),
+        top: wide(given, 0),
+        thickness: wide(given, 2),
+        friction: u32::from_be_bytes([given[4], given[5], given[6], given[7]]),
+        factor: given[8],
     }
 }

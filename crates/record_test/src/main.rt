@@ -4,59 +4,61 @@
 // the bytes that follow and then zeros, and the last two of 600 say which place or byte; what is packed goes to a buffer that long, 165 in every byte.
 #![tactic(auto)]
 
-ghost use Rattle.std.specs.Prelude.{◌≡◌, ◌≤◌, length, take};
-
 mod given;
 mod packs;
 mod reads;
 mod show;
 
-use given::{next_byte, next_wide, wide};
+use given::{GIVEN_SIZE, Given, next_byte, next_wide, wide};
 use packs::{pack_log, pack_pile, pack_row, pack_slice};
 use reads::{read_log, read_pile, read_row, read_rows, read_slice};
-use show::end_line;
 use std::io::{self, Read};
 
 const CASES: usize = 100000;
 
-// So many of the bytes of s, and no more than it has.
-fn count(n: usize, s: &[u8]) -> usize
-    ensures within { result ≤ length s.now }
-    ensures prefix { result ≡ length (take result s.now) }
-{
-    if n < s.len() { n } else { s.len() }
+// What a case does.
+#[derive(Clone, Copy)]
+enum Kind {
+    ReadLog,
+    ReadRows,
+    ReadPile,
+    ReadSlice,
+    ReadRow,
+    PackLog,
+    PackPile,
+    PackSlice,
+    PackRow,
 }
 
-fn run_read(rt: &impl Print, kind: u8, given: &[u8], long: u16) -> io::Result<()> {
-    let i = wide(given, 598);
-    let n = count(long as usize, given);
-    let s = &given[..n];
-    match kind {
-        1 => read_log(rt, s),
-        2 => read_rows(rt, s),
-        3 => read_pile(rt, s),
-        4 => read_slice(rt, s, i),
-        _ => read_row(rt, s, i),
+impl Kind {
+    // By the byte that a case begins with; 0 ends the cases.
+    fn of(byte: u8) -> Option<Kind> {
+        match byte {
+            0 => None,
+            1 => Some(Kind::ReadLog),
+            2 => Some(Kind::ReadRows),
+            3 => Some(Kind::ReadPile),
+            4 => Some(Kind::ReadSlice),
+            5 => Some(Kind::ReadRow),
+            6 => Some(Kind::PackLog),
+            7 => Some(Kind::PackPile),
+            8 => Some(Kind::PackSlice),
+            _ => Some(Kind::PackRow),
+        }
     }
 }
 
-fn run_pack(rt: &impl Print, kind: u8, given: &[u8], long: u16) -> io::Result<()> {
-    let mut buf = [165u8; 600];
-    let n = count(long as usize, &buf);
-    let s = &mut buf[..n];
-    match kind {
-        6 => pack_log(rt, given, s),
-        7 => pack_pile(rt, given, s),
-        8 => pack_slice(rt, given),
-        _ => pack_row(rt, given),
-    }
+#[derive(Clone, Copy)]
+struct Case {
+    kind: Kind,
+    length: u16,
+    given: Given,
 }
 
-// Puts the bytes that follow in front.
-fn fill(input: &mut impl Read, bytes: &mut [u8]) -> io::Result<()> {
-    let given = next_wide(input)?;
-    let n = count(given as usize, bytes);
-    for x in bytes[..n].iter_mut() {
+// Puts as many bytes as are said to follow in front, or as many as there are.
+fn fill(input: &mut impl Read, given: &mut Given) -> io::Result<()> {
+    let following = usize::from(next_wide(input)?);
+    for x in given.iter_mut().take(following) {
         let Some(b) = input.by_ref().bytes().next() else {
             break;
         };
@@ -65,26 +67,47 @@ fn fill(input: &mut impl Read, bytes: &mut [u8]) -> io::Result<()> {
     Ok(())
 }
 
-fn next_case(rt: &impl Print, input: &mut impl Read, kind: u8) -> io::Result<()> {
-    let long = next_wide(input)?;
-    let mut given = [0u8; 600];
+fn next_case(input: &mut impl Read) -> io::Result<Option<Case>> {
+    let Some(kind) = Kind::of(next_byte(input)?) else {
+        return Ok(None);
+    };
+    let length = next_wide(input)?;
+    let mut given = [0; GIVEN_SIZE];
     fill(input, &mut given)?;
-    if kind < 6 {
-        run_read(rt, kind, &given, long)?;
-    } else {
-        run_pack(rt, kind, &given, long)?;
+    Ok(Some(Case {
+        kind,
+        length,
+        given,
+    }))
+}
+
+fn run(rt: &impl Print, case: &Case) -> io::Result<()> {
+    let given = &case.given;
+    let length = usize::from(case.length).min(GIVEN_SIZE);
+    let read = &given[..length];
+    let place = wide(given, 598);
+    let mut buf = [165; GIVEN_SIZE];
+    let packed = &mut buf[..length];
+    match case.kind {
+        Kind::ReadLog => read_log(rt, read),
+        Kind::ReadRows => read_rows(rt, read),
+        Kind::ReadPile => read_pile(rt, read),
+        Kind::ReadSlice => read_slice(rt, read, place),
+        Kind::ReadRow => read_row(rt, read, place),
+        Kind::PackLog => pack_log(rt, given, packed),
+        Kind::PackPile => pack_pile(rt, given, packed),
+        Kind::PackSlice => pack_slice(rt, given),
+        Kind::PackRow => pack_row(rt, given),
     }
-    end_line(rt)
 }
 
 fn main(rt: HostRuntime) -> io::Result<()> {
     let mut input = rt.reader();
     for _ in 0..CASES {
-        let kind = next_byte(&mut input)?;
-        if kind == 0 {
-            return Ok(());
-        }
-        next_case(&rt, &mut input, kind)?;
+        let Some(case) = next_case(&mut input)? else {
+            break;
+        };
+        run(&rt, &case)?;
     }
     Ok(())
 }

@@ -1,112 +1,101 @@
-// What the lines are made of: numbers, refusals, rows, bytes.
+// What the lines are made of: the numbers of a value, bytes, and sums of them.
 use rules::{Log, PileRead, Refusal, Row, Slice};
-use std::io;
+use std::fmt;
 
-pub(crate) fn number(rt: &impl Print, n: u64) -> io::Result<()> {
-    print!(rt; " {n}")
+// The numbers of a value, in the order of its fields, each behind a space.
+#[derive(Clone, Copy)]
+pub(crate) struct Numbers<T>(pub(crate) T);
+
+impl fmt::Display for Numbers<Refusal> {
+    fn fmt<W: fmt::Write>(&self, f: &mut fmt::Formatter<W>) -> fmt::Result {
+        let refusal = self.0;
+        write!(f, " {} {} {}", refusal.number, refusal.row, refusal.field)
+    }
 }
 
-pub(crate) fn small(rt: &impl Print, n: u8) -> io::Result<()> {
-    number(rt, n as u64)
+impl fmt::Display for Numbers<Row> {
+    fn fmt<W: fmt::Write>(&self, f: &mut fmt::Formatter<W>) -> fmt::Result {
+        let row = self.0;
+        write!(f, " {} {} {}", row.thickness, row.kind, row.index)?;
+        write!(f, " {} {}", row.saturation, row.zero)
+    }
 }
 
-fn wide(rt: &impl Print, n: u16) -> io::Result<()> {
-    number(rt, n as u64)
+impl fmt::Display for Numbers<PileRead> {
+    fn fmt<W: fmt::Write>(&self, f: &mut fmt::Formatter<W>) -> fmt::Result {
+        let read = self.0;
+        write!(f, "{} {}", Numbers(read.refusal), read.length)?;
+        write!(f, " {} {} {} {}", read.section, read.a, read.b, read.method)?;
+        write!(
+            f,
+            " {} {} {} {}",
+            read.head, read.tip, read.zero, read.grade
+        )
+    }
 }
 
-pub(crate) fn word(rt: &impl Print, n: u32) -> io::Result<()> {
-    number(rt, n as u64)
+impl fmt::Display for Numbers<Slice> {
+    fn fmt<W: fmt::Write>(&self, f: &mut fmt::Formatter<W>) -> fmt::Result {
+        let slice = self.0;
+        write!(f, " {} {}", slice.top, slice.thickness)?;
+        write!(f, " {} {}", slice.friction, slice.factor)
+    }
 }
 
-pub(crate) fn end_line(rt: &impl Print) -> io::Result<()> {
-    print!(rt; "\n")
+// The first 16 bytes, two digits for each.
+#[derive(Clone, Copy)]
+pub(crate) struct Hex<'a>(pub(crate) &'a [u8]);
+
+impl fmt::Display for Hex<'_> {
+    fn fmt<W: fmt::Write>(&self, f: &mut fmt::Formatter<W>) -> fmt::Result {
+        for byte in self.0.iter().take(16) {
+            write!(f, "{byte:02x}")?;
+        }
+        Ok(())
+    }
 }
 
-pub(crate) fn refusal(rt: &impl Print, r: Refusal) -> io::Result<()> {
-    word(rt, r.number)?;
-    word(rt, r.row)?;
-    word(rt, r.field)
+// A sum, and the sum of that sum after each number, which changes with their order too.
+#[derive(Clone, Copy, Default)]
+struct Sums {
+    sum: u64,
+    all: u64,
 }
 
-pub(crate) fn row(rt: &impl Print, r: Row) -> io::Result<()> {
-    wide(rt, r.thickness)?;
-    small(rt, r.kind)?;
-    small(rt, r.index)?;
-    small(rt, r.saturation)?;
-    small(rt, r.zero)
-}
-
-pub(crate) fn pile_read(rt: &impl Print, p: PileRead) -> io::Result<()> {
-    refusal(rt, p.refusal)?;
-    small(rt, p.length)?;
-    small(rt, p.section)?;
-    wide(rt, p.a)?;
-    wide(rt, p.b)?;
-    small(rt, p.method)?;
-    wide(rt, p.head)?;
-    wide(rt, p.tip)?;
-    small(rt, p.zero)?;
-    wide(rt, p.grade)
-}
-
-pub(crate) fn slice(rt: &impl Print, c: Slice) -> io::Result<()> {
-    wide(rt, c.top)?;
-    wide(rt, c.thickness)?;
-    word(rt, c.friction)?;
-    small(rt, c.factor)
+impl Sums {
+    fn with(self, number: u64) -> Sums {
+        let sum = self.sum.wrapping_add(number);
+        Sums {
+            sum,
+            all: self.all.wrapping_add(sum),
+        }
+    }
 }
 
 // The fields of a row as one number.
-fn fields(r: Row) -> u64 {
-    r.thickness as u64
-        + 3 * r.kind as u64
-        + 5 * r.index as u64
-        + 7 * r.saturation as u64
-        + 11 * r.zero as u64
+fn fields(row: &Row) -> u64 {
+    u64::from(row.thickness)
+        + 3 * u64::from(row.kind)
+        + 5 * u64::from(row.index)
+        + 7 * u64::from(row.saturation)
+        + 11 * u64::from(row.zero)
 }
 
-// The row of a place that is used, where rows are asked for.
-fn used_row(rt: &impl Print, asked: bool, r: Row) -> io::Result<()> {
-    if !asked {
-        return Ok(());
-    }
-    if r.thickness == 0 {
-        return Ok(());
-    }
-    row(rt, r)
+// The sum of the sums of the first row's fields, of the first two rows', and so on.
+pub(crate) fn row_sums(log: &Log) -> u64 {
+    let start = Sums::default();
+    let sums = log
+        .rows
+        .iter()
+        .fold(start, |sums, row| sums.with(fields(row)));
+    sums.all
 }
 
-// Every row that is used, field by field, where rows are asked for. Gives the sum of the sums of the first row's fields, of the
-// first two rows', and so on.
-pub(crate) fn rows(rt: &impl Print, asked: bool, l: Log) -> io::Result<u64> {
-    let mut sum: u64 = 0;
-    let mut all: u64 = 0;
-    for r in &l.rows {
-        used_row(rt, asked, *r)?;
-        sum = sum.wrapping_add(fields(*r));
-        all = all.wrapping_add(sum);
-    }
-    Ok(all)
-}
-
-// Two digits for a byte, one of the first 16.
-fn hex(rt: &impl Print, i: usize, byte: u64) -> io::Result<()> {
-    if i >= 16 {
-        return Ok(());
-    }
-    print!(rt; "{byte:02x}")
-}
-
-// The first 16 bytes. Gives the sum of the sums of the first byte, of the first two, and so on.
-pub(crate) fn bytes(rt: &impl Print, s: &[u8]) -> io::Result<u64> {
-    print!(rt; " ")?;
-    let mut sum: u64 = 0;
-    let mut all: u64 = 0;
-    for (i, b) in s.iter().enumerate() {
-        let byte = u64::from(*b);
-        hex(rt, i, byte)?;
-        sum = sum.wrapping_add(byte);
-        all = all.wrapping_add(sum);
-    }
-    Ok(all)
+// The sum of the sums of the first byte, of the first two, and so on.
+pub(crate) fn byte_sums(bytes: &[u8]) -> u64 {
+    let start = Sums::default();
+    let sums = bytes
+        .iter()
+        .fold(start, |sums, byte| sums.with(u64::from(*byte)));
+    sums.all
 }
