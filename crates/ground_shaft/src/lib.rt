@@ -36,12 +36,10 @@ pub fn cut_shaft(log: &[u8], pile: Pile, table: &mut [u8]) -> Shaft
         let from = head.max(stratum.top);
         let end = tip.min(stratum.bottom);
         let part = cut_part(&rows, table, shaft.used, pile, stratum.soil, from, end);
-        shaft = Shaft {
-            used: part.used,
-            sum: shaft.sum + part.sum,
-            soil: stratum.soil,
-            top: stratum.top,
-        };
+        shaft.used = part.used;
+        shaft.sum += part.sum;
+        shaft.soil = stratum.soil;
+        shaft.top = stratum.top;
     }
     shaft
 }
