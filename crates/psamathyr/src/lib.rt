@@ -9,16 +9,18 @@ ghost use Rattle.rules.specs.Answers.{refused};
 ghost use Rattle.rules.specs.Calculation.{calculated, table_after};
 ghost use Rattle.rules.specs.EditReplies.{edit_reply, edit_log, edit_table};
 
-use rules::{Answer, LogRead, Pile, PileRead, SandFields, SliceRead};
+use edit_naming::Edit;
+use rules::{Answer, LogRead, Pile, PileRead, SandFields, SandNumbers, SliceRead, refusal_in};
 
 pub fn psamathyr_calculate(log: &[u8], pile: &[u8], sand: SandFields, table: &mut [u8]) -> Answer
     ensures reply { result ≡ calculated log.now pile.now (sand_from sand) table.old }
     ensures table { table.new ≡ table_after log.now pile.now (sand_from sand) table.old }
 {
-    let extra = record_sand::sand_given(sand);
+    let extra = Option::<SandNumbers>::from(sand);
     answer_calculation::calculate(log, pile, extra, table)
 }
 
+#[tactic(auto, using(edit_reply::proofs::KindLaws::reply_known, edit_reply::proofs::KindLaws::log_known, edit_reply::proofs::KindLaws::table_known))]
 pub fn psamathyr_edit(
     log: &mut [u8],
     pile: &[u8],
@@ -33,8 +35,8 @@ pub fn psamathyr_edit(
     ensures log { log.new ≡ edit_log (asked kind k x row.now) log.old pile.now table.old }
     ensures table { table.new ≡ edit_table (asked kind k x row.now) log.old pile.now (sand_from sand) table.old }
 {
-    let extra = record_sand::sand_given(sand);
-    edit_reply::edit(log, pile, extra, table, kind, k, x, row)
+    let extra = Option::<SandNumbers>::from(sand);
+    edit_reply::edit(log, pile, extra, table, Edit::asked(kind, k, x, row))
 }
 
 pub fn psamathyr_read_log(log: &[u8]) -> LogRead
@@ -49,7 +51,7 @@ pub fn psamathyr_pack_log(fields: LogRead, log: &mut [u8]) -> Answer
     ensures log { log.new ≡ packed_log fields.log log.old }
 {
     let rows = fields.log;
-    base_replies::refused(record_packing::pack_log(rows, log))
+    Answer::from(refusal_in(record_packing::pack_log(rows, log)))
 }
 
 pub fn psamathyr_read_pile(pile: &[u8]) -> PileRead
@@ -63,17 +65,8 @@ pub fn psamathyr_pack_pile(fields: PileRead, pile: &mut [u8]) -> Answer
     ensures reply { result ≡ refused (pack_pile_check (pile_of_read fields) pile.old) }
     ensures pile { pile.new ≡ packed_pile (pile_of_read fields) pile.old }
 {
-    let parts = Pile {
-        section: fields.section,
-        a: fields.a,
-        b: fields.b,
-        method: fields.method,
-        head: fields.head,
-        tip: fields.tip,
-        zero: fields.zero,
-        grade: fields.grade,
-    };
-    base_replies::refused(record_pile_bytes::pack_pile(parts, pile))
+    let parts = Pile::from(fields);
+    Answer::from(refusal_in(record_pile_bytes::pack_pile(parts, pile)))
 }
 
 pub fn psamathyr_read_slice(table: &[u8], place: u32) -> SliceRead
