@@ -1,5 +1,5 @@
 // A step as standard input holds it.
-use edit_naming::{Edit, EditKind};
+use edit_naming::Edit;
 use rules::{Answer, ROW_SIZE, SandNumbers};
 use std::io::{self, Read};
 
@@ -47,7 +47,7 @@ pub(crate) struct Step {
 }
 
 impl Step {
-    // An edit, of no kind where the number is none of theirs, of as much of each as is lent.
+    // The edit that is asked for, of as much of each as is lent.
     pub(crate) fn edit(
         &self,
         log: &mut [u8],
@@ -55,12 +55,6 @@ impl Step {
         extra: Option<SandNumbers>,
         table: &mut [u8],
     ) -> Answer {
-        let asked = Edit {
-            kind: EditKind::try_from(self.number).ok(),
-            k: self.k,
-            x: self.x,
-            row: self.row(),
-        };
         let log_length = self.log.min(log.len());
         let pile_length = self.pile.min(pile.len());
         let table_length = self.table.min(table.len());
@@ -69,7 +63,7 @@ impl Step {
             &pile[..pile_length],
             extra,
             &mut table[..table_length],
-            asked,
+            Edit::asked(self.number, self.k, self.x, self.row()),
         )
     }
 
