@@ -23,12 +23,14 @@ pub enum EditKind {
 
 // The kinds are numbered from 1; every other number is refused as 13.
 impl TryFrom<u32> for EditKind {
+    ghost use Rattle.std.specs.Prelude.{◌≡◌, IfErr};
     ghost use Rattle.std.specs.Result.{result_ok};
+    ghost use Rattle.rules.specs.declared.faults.Fault.TheVariants.{NamesNothing};
     ghost use Rattle.edit_naming.specs.Asked.{known, number_of};
 
     type Error = Fault;
 
-    ghost try_from_gives = { λ number outcome. number_of (result_ok outcome) ≡ known number };
+    ghost try_from_gives = { λ number outcome. (number_of (result_ok outcome) ≡ known number) × IfErr outcome (λ fault. fault ≡ NamesNothing) };
 
     fn try_from(number: u32) -> Result<EditKind, Fault> {
         match number {
