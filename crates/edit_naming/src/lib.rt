@@ -80,7 +80,8 @@ pub fn named_row(log: &[u8], k: u32) -> Row
 
 impl<'a> Edit<'a> {
     pub fn asked(kind: u32, k: u32, x: u32, row: &'a [u8]) -> Edit<'a>
-        ensures { edit_of result ≡ rule.asked (known kind) k x row.now }
+        ensures edit { edit_of result ≡ rule.asked (known kind) k x row.now }
+        ensures lent { result.row ≡ row.entry }
     {
         let kind = EditKind::try_from(kind).ok();
         Edit { kind, k, x, row }
