@@ -6,10 +6,10 @@ use Prim.Native.Nat.{ℕ, ◌<◌}
 use native.Mathlib.Omega.{arith}
 use lib.ListN.{length}
 use borrow.Author.Tests.{eqb-false}
-use Rattle.rules.specs.Base.{refuse, nothing, when, first}
+use Rattle.rules.specs.Base.{refuse, when, first}
 use Rattle.rules.specs.Limits.{limit_of, table_size}
-use Rattle.rules.specs.Checks.{formless, pile_length_wrong, Passed, lengths_wrong, lent_checks}
-use Rattle.rules.proofs.Groups.{content_checks, lent_grouped, log_grouped}
+use Rattle.rules.specs.Checks.{formless, pile_length_wrong, lengths_wrong, lent_checks}
+use Rattle.rules.proofs.Groups.{content_checks, lent_grouped}
 use Rattle.rules.proofs.RefusalLaws.{either_left, either_right, right_long}
 
 -- check 1 comes first
@@ -38,7 +38,3 @@ long log pile table h =
 pub lent_content : (log pile table : List ℕ) → lengths_wrong log pile table ≡ false → lent_checks log pile table ≡ content_checks log
 unfolding first when
 lent_content log pile table h = rw (lent_grouped log pile table, h)
-
-pub log_passed : (log : List ℕ) → formless log ≡ false → nothing ≡ content_checks log → Passed log
-unfolding first when
-log_passed log h e = rw (log_grouped log, h, ← e)

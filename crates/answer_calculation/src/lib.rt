@@ -12,7 +12,7 @@ use record_log_checks::check_content;
 use rules::{Answer, Fault, Refusal, SandNumbers};
 
 // The numbers of a log, a pile record with its extra record, and a slice table of any length, or the first check that refuses.
-#[tactic(auto, using(crate::proofs::CheckedLaws::lent_wrong, crate::proofs::CheckedLaws::lent_content, crate::proofs::CheckedLaws::long, crate::proofs::CheckedLaws::log_passed, answer_work::proofs::WorkLaws::fault_refuses), unfolding(rules::specs::Calculation::calculated, rules::specs::Calculation::table_after, rules::specs::Calculation::fresh_table))]
+#[tactic(auto, using(crate::proofs::CheckedLaws::lent_wrong, crate::proofs::CheckedLaws::lent_content, crate::proofs::CheckedLaws::long, answer_work::proofs::WorkLaws::fault_refuses), unfolding(rules::specs::Calculation::calculated, rules::specs::Calculation::table_after, rules::specs::Calculation::fresh_table))]
 fn numbers(
     log: &[u8],
     pile: &[u8],
@@ -25,8 +25,8 @@ fn numbers(
     if lengths_wrong(log, pile, table) {
         return Err(Fault::Length);
     }
-    let depth = check_content(log)?;
-    let work = work_out(log, depth, pile, extra, table)?;
+    let checked = check_content(log)?;
+    let work = work_out(checked, pile, extra, table)?;
     Ok(work.answer)
 }
 

@@ -1,5 +1,5 @@
 -- Laws of checks 13, 14, 3 and 4 of an edit of a log that passes: one by one, and the depth of the new log.
-use mathlib.Core.Path.{◌≡◌, sym, ap}
+use mathlib.Core.Path.{◌≡◌}
 use mathlib.Core.Bool.{true, false}
 use mathlib.Core.Logic.{◌⊎◌, ⊎_elim}
 use mathlib.Core.List.{List, [], ◌∷◌}
@@ -9,14 +9,13 @@ use lib.ListN.{length, take, drop}
 use lib.Seq.{drop-cons}
 use borrow.Author.Tests.{lt-ltb, le-ltb}
 use Rattle.rules.specs.declared.Row.{Row}
-use Rattle.rules.specs.Base.{refuse, refuses, nothing, when, first}
+use Rattle.rules.specs.Base.{refuse, nothing, when, first}
 use Rattle.rules.specs.Limits.{limit_of, depth_limit}
 use Rattle.rules.specs.Packed.{no_row, row_at, rows_of}
 use Rattle.rules.specs.Ground.{depth_of}
 use Rattle.rules.specs.Edits.{Edit, asked, row_named, part, stands, edited_rows}
-use Rattle.rules.specs.Checks.{full, new_row_check, formless, Passed, lengths_wrong, edit_lengths_wrong}
-use Rattle.rules.proofs.Groups.{content_checks, change_checks, log_grouped}
-use Rattle.rules.proofs.RefusalLaws.{first_none, when_false, either_left}
+use Rattle.rules.specs.Checks.{full, new_row_check}
+use Rattle.rules.proofs.Groups.{change_checks}
 use Rattle.rules.proofs.SpliceLaws.{depth_parts, splice_depth}
 use Rattle.rules.proofs.EditLaws.{Standing, replaces, inserts, removes, splits}
 use Rattle.edit_checks.specs.Depths.{goes, comes}
@@ -64,9 +63,3 @@ module _ (e : Edit) (l : List ℕ) (s : stands e (rows_of l) ≡ true) (f : full
   pub change_none : d ≤ depth_limit → nothing ≡ change_checks e l
   unfolding change_checks when first
   change_none g = rw (s, f, ← n, new, le-ltb depth_limit d g)
-
--- a log whose length and content refuse nothing passes
-pub passed : (e : Edit) (log pile table : List ℕ) → edit_lengths_wrong e log pile table ≡ false → nothing ≡ content_checks log → Passed log
-passed e log pile table h n =
-    let formed : formless log ≡ false = either_left _ _ (either_left (lengths_wrong log pile table) _ h) in
-    rw (log_grouped log) (first_none (when (formless log) 1) (content_checks log) (ap refuses (when_false 1 (formless log) formed)) (ap refuses (sym n)))

@@ -6,7 +6,7 @@ ghost use Rattle.rules.specs.Records.{row_size};
 ghost use Rattle.rules.specs.Packed.{count_of, rows_of};
 ghost use Rattle.rules.specs.Ground.{depth_of};
 ghost use Rattle.rules.specs.Edits.{edited_rows};
-ghost use Rattle.rules.specs.Checks.{Passed, edit_checks};
+ghost use Rattle.rules.specs.Checks.{edit_checks};
 ghost use Rattle.rules.specs.Checks as checks;
 ghost use Rattle.rules.specs.Faults.{refusal_in};
 ghost use Rattle.rules.proofs.Groups.{change_checks};
@@ -14,6 +14,7 @@ ghost use Rattle.edit_naming.specs.Asked.{edit_of, number_of};
 ghost use Rattle.edit_checks.specs.Depths.{goes, comes};
 
 use edit_naming::{Edit, EditKind, named_row};
+use record_log_checks::{CheckedLog, check_content};
 use record_rows::read_row;
 use rules::{DEPTH_LIMIT, Fault, ROW_SIZE};
 
@@ -62,19 +63,18 @@ fn come(edit: Edit<'_>) -> u64
 
 // Checks 13, 14, 3 and 4 of an edit of a log that passes. The new log's depth comes from the lent one's.
 #[tactic(auto, unfolding(rules::proofs::Groups::change_checks, rules::specs::Base::first, rules::specs::Base::when))]
-fn check_change(log: &[u8], depth: u64, edit: Edit<'_>) -> Result<u64, Fault>
-    requires { Passed log.now × (depth ≡ depth_of (rows_of log.now)) }
-    ensures refusal { refusal_in result ≡ change_checks (edit_of edit.entry) log.now }
-    ensures depth { IfOk result (λ deep. deep ≡ depth_of (edited_rows (edit_of edit.entry) (rows_of log.now))) }
+fn check_change(log: CheckedLog<'_>, edit: Edit<'_>) -> Result<u64, Fault>
+    ensures refusal { refusal_in result ≡ change_checks (edit_of edit.entry) log.entry.bytes.now }
+    ensures depth { IfOk result (λ deep. deep ≡ depth_of (edited_rows (edit_of edit.entry) (rows_of log.entry.bytes.now))) }
 {
-    if !edit.stands(log) {
+    if !edit.stands(log.bytes) {
         return Err(Fault::NamesNothing);
     }
-    if edit.full(log) {
+    if edit.full(log.bytes) {
         return Err(Fault::Full);
     }
     check_new_row(edit)?;
-    let deep = depth - gone(log, edit) + come(edit);
+    let deep = log.depth - gone(log.bytes, edit) + come(edit);
     if DEPTH_LIMIT < deep {
         return Err(Fault::TooDeep);
     }
@@ -90,6 +90,5 @@ pub fn check_edit(log: &[u8], pile: &[u8], table: &[u8], edit: Edit<'_>) -> Resu
     if lengths_wrong(log, pile, table, edit) {
         return Err(Fault::Length);
     }
-    let depth = record_log_checks::check_content(log)?;
-    check_change(log, depth, edit)
+    check_change(check_content(log)?, edit)
 }

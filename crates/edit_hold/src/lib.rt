@@ -3,30 +3,27 @@
 
 ghost use Rattle.std.specs.Prelude.{◌≡◌, length};
 ghost use Rattle.rules.specs.Limits.{limit_of, table_size};
-ghost use Rattle.rules.specs.Packed.{rows_of};
-ghost use Rattle.rules.specs.Ground.{depth_of};
-ghost use Rattle.rules.specs.Checks.{Passed};
 ghost use Rattle.rules.specs.Calculation.{fresh_table};
 ghost use Rattle.rules.specs.EditReplies.{edit_answer};
 
 use answer_work::work_out;
 use edit_kept::{kept_count, table_copy};
+use record_log_checks::CheckedLog;
 use rules::{Answer, Refusal, SandNumbers};
 
-// The changed log, this deep, is worked out into the table. The table is written in place, so kept is counted against a copy of it.
+// The changed log is worked out into the table. The table is written in place, so kept is counted against a copy of it.
 pub fn hold(
-    log: &[u8],
-    depth: u64,
+    log: CheckedLog<'_>,
     pile: &[u8],
     extra: Option<SandNumbers>,
     table: &mut [u8],
 ) -> Answer
-    requires { Passed log.now × (depth ≡ depth_of (rows_of log.now)) × (length table.old ≡ table_size (limit_of log.now)) }
-    ensures reply { result ≡ edit_answer log.now pile.now extra table.old }
-    ensures table { table.new ≡ fresh_table log.now pile.now extra }
+    requires { length table.old ≡ table_size (limit_of log.bytes.now) }
+    ensures reply { result ≡ edit_answer log.entry.bytes.now pile.now extra table.old }
+    ensures table { table.new ≡ fresh_table log.entry.bytes.now pile.now extra }
 {
     let old = table_copy(table);
-    match work_out(log, depth, pile, extra, table) {
+    match work_out(log, pile, extra, table) {
         Ok(work) => {
             let kept = kept_count(table, &old, work.used) as u32;
             Answer {

@@ -5,7 +5,6 @@ use mathlib.Core.List.{List, [], ◌∷◌, ◌++◌, append_assoc, append-nil}
 use Prim.Native.Nat.{ℕ, ◌+◌, ◌*◌, ◌-◌, ◌<◌, ◌≤◌, min, max}
 use native.Mathlib.Omega.{arith}
 use lib.ListN.{length, replicate, length-append}
-use denote.Ref.{Bor}
 use Rattle.rules.specs.declared.Row.{Row}
 use Rattle.rules.specs.declared.Pile.{Pile}
 use Rattle.rules.specs.declared.Slice.{Slice}
@@ -19,6 +18,7 @@ use Rattle.rules.specs.Numbers.{slice_of, slice_each, friction_sum}
 use Rattle.rules.proofs.PassedLaws.{known}
 use Rattle.rules.proofs.RoomLaws.{slices_room}
 use Rattle.rules.proofs.StratumLaws.{no_pieces, stratum_cut, top_here}
+use Rattle.record_log_checks.specs.declared.checked.CheckedLog.{CheckedLog}
 use Rattle.record_slice_table.specs.Table.{put_all}
 use Rattle.record_slice_table.proofs.TableLaws.{Filled, filled_none, filled_long, filled_all}
 use Rattle.ground_cuts.specs.declared.Cut.{Cut}
@@ -49,28 +49,28 @@ abbrev pub part_of : Pile → ℕ → StratumFound → List Slice
 part_of p top r = slices_in p r.soil (max p.head top) (min p.tip r.bottom)
 
 -- every stratum above what is left is cut
-pub record Doing (log : List ℕ) (p : Pile) (size : ℕ) (bytes : List ℕ) (shaft : Shaft) (s : Strata) : Type 0 where
+pub record Doing (log : CheckedLog) (p : Pile) (size : ℕ) (bytes : List ℕ) (shaft : Shaft) (s : Strata) : Type 0 where
   pub can : Walks s
-  pub log_is : s.log.now ≡ log
+  pub log_is : s.log ≡ log
   pub tip_is : s.tip ≡ p.tip
   pub cut : List Slice
-  pub rest : cut_of (rows_of log) p ≡ cut ++ left_of (rows_of log) p s.top
+  pub rest : cut_of (rows_of log.bytes.now) p ≡ cut ++ left_of (rows_of log.bytes.now) p s.top
   pub table : Filled size cut bytes shaft.used
   pub sums : shaft.sum ≡ friction_sum cut
   pub small : shaft.sum ≤ weight_bound * min p.tip s.top
-  pub parted : 0 < s.top → s.top ≤ p.tip → same (soil_at (rows_of log) (s.top - 1)) (soil_at (rows_of log) s.top) ≡ false
-  pub soil : p.tip < s.top → shaft.soil ≡ soil_at (rows_of log) p.tip
-  pub top_is : p.tip < s.top → shaft.top ≡ run_top (soil_at (rows_of log)) (soil_at (rows_of log) p.tip) p.tip
+  pub parted : 0 < s.top → s.top ≤ p.tip → same (soil_at (rows_of log.bytes.now) (s.top - 1)) (soil_at (rows_of log.bytes.now) s.top) ≡ false
+  pub soil : p.tip < s.top → shaft.soil ≡ soil_at (rows_of log.bytes.now) p.tip
+  pub top_is : p.tip < s.top → shaft.top ≡ run_top (soil_at (rows_of log.bytes.now)) (soil_at (rows_of log.bytes.now) p.tip) p.tip
 
-pub doing_none : (log : Bor (List ℕ)) (p : Pile) (size : ℕ) (bytes : List ℕ) (shaft : Shaft) (s : Strata) → Ready log.now p size → bytes ≡ replicate size 0
-    → shaft.used ≡ 0 → shaft.sum ≡ 0 → s ≡ from_ground log p.tip → Doing log.now p size bytes shaft s
+pub doing_none : (log : CheckedLog) (p : Pile) (size : ℕ) (bytes : List ℕ) (shaft : Shaft) (s : Strata) → Ready log p size → bytes ≡ replicate size 0
+    → shaft.used ≡ 0 → shaft.sum ≡ 0 → s ≡ from_ground log p.tip → Doing log p size bytes shaft s
 unfolding pieces friction_sum depth_of
 doing_none log p size bytes shaft s a e u z f =
     let top : s.top ≡ 0 = ap (λ (x : Strata). x.top) f in
     let h : max p.head s.top ≡ p.head = omega arith in
     record {
-      can = rw f (record { passed = a.passed; deep = a.deep; top_is = refl });
-      log_is = ap (λ (x : Strata). x.log.now) f;
+      can = rw f (record { deep = a.deep; top_is = refl });
+      log_is = ap (λ (x : Strata). x.log) f;
       tip_is = ap (λ (x : Strata). x.tip) f;
       cut = [];
       rest = rw h refl;
@@ -83,20 +83,20 @@ doing_none log p size bytes shaft s a e u z f =
     }
 
 -- a shaft has no more slices than a table has places
-few : {log : List ℕ} {p : Pile} {size : ℕ} → Ready log p size → length (cut_of (rows_of log) p) ≤ places_for (limit_of log)
+few : {log : CheckedLog} {p : Pile} {size : ℕ} → Ready log p size → length (cut_of (rows_of log.bytes.now) p) ≤ places_for (limit_of log.bytes.now)
 few {log} {p} a =
-    let k = known log a.passed in
-    slices_room (rows_of log) p (limit_of log) (omega (arith, k.rows, k.few)) (omega (arith, a.deep)) a.near
+    let k = known log.bytes.now log.passed in
+    slices_room (rows_of log.bytes.now) p (limit_of log.bytes.now) (omega (arith, k.rows, k.few)) (omega (arith, a.deep, log.deep)) a.near
 
-module _ {log : List ℕ} {p : Pile} {size : ℕ} (a : Ready log p size) {bytes : List ℕ} {shaft : Shaft} {s : Strata} (g : Doing log p size bytes shaft s) where
+module _ {log : CheckedLog} {p : Pile} {size : ℕ} (a : Ready log p size) {bytes : List ℕ} {shaft : Shaft} {s : Strata} (g : Doing log p size bytes shaft s) where
   pub doing_long : length bytes ≡ size
-  doing_long = filled_long size g.cut bytes shaft.used (omega (arith, a.room, few a, ap length g.rest, length-append g.cut (left_of (rows_of log) p s.top), g.table.0)) g.table
+  doing_long = filled_long size g.cut bytes shaft.used (omega (arith, a.room, few a, ap length g.rest, length-append g.cut (left_of (rows_of log.bytes.now) p s.top), g.table.0)) g.table
 
   module _ {x : Stratum} {t : Strata} (n : Next s x t) where
     abbrev found : StratumFound
     found = record { soil = x.soil; bottom = x.bottom; next = t.next }
 
-    reaches : Reaches log s.next s.top p.tip found
+    reaches : Reaches log.bytes.now s.next s.top p.tip found
     reaches = rw (g.log_is, g.tip_is) at n.reaches
 
     high : s.top ≤ p.tip
@@ -105,14 +105,14 @@ module _ {log : List ℕ} {p : Pile} {size : ℕ} (a : Ready log p size) {bytes 
     abbrev part : List Slice
     part = part_of p s.top found
 
-    next_is : left_of (rows_of log) p s.top ≡ part ++ left_of (rows_of log) p x.bottom
-    next_is = let w = reaches in ap (slice_each p) (stratum_cut (soil_at (rows_of log)) x.soil p.head p.tip s.top x.bottom w.some w.alike (λ l. w.parted (omega arith))) ∙ each_append p _ _
+    next_is : left_of (rows_of log.bytes.now) p s.top ≡ part ++ left_of (rows_of log.bytes.now) p x.bottom
+    next_is = let w = reaches in ap (slice_each p) (stratum_cut (soil_at (rows_of log.bytes.now)) x.soil p.head p.tip s.top x.bottom w.some w.alike (λ l. w.parted (omega arith))) ∙ each_append p _ _
 
-    more : cut_of (rows_of log) p ≡ (g.cut ++ part) ++ left_of (rows_of log) p x.bottom
+    more : cut_of (rows_of log.bytes.now) p ≡ (g.cut ++ part) ++ left_of (rows_of log.bytes.now) p x.bottom
     more = g.rest ∙ ap (λ (z : List Slice). g.cut ++ z) next_is ∙ sym (append_assoc g.cut part _)
 
-    places : shaft.used + length part ≤ places_for (limit_of log)
-    places = omega (arith, few a, ap length more, length-append (g.cut ++ part) (left_of (rows_of log) p x.bottom), length-append g.cut part, g.table.0)
+    places : shaft.used + length part ≤ places_for (limit_of log.bytes.now)
+    places = omega (arith, few a, ap length more, length-append (g.cut ++ part) (left_of (rows_of log.bytes.now) p x.bottom), length-append g.cut part, g.table.0)
 
     room : (shaft.used + length part) * slice_size ≤ size
     room = omega (arith, places, a.room)
@@ -130,21 +130,21 @@ module _ {log : List ℕ} {p : Pile} {size : ℕ} (a : Ready log p size) {bytes 
         let is : slices_in p x.soil from end ≡ part = rw (f, k, n.top_is) in
         let count : q.used ≡ shaft.used + length part = ap (λ (v : Cut). v.used) y.0 ∙ ap (λ (v : List Slice). shaft.used + length v) is in
         let sum_is : q.sum ≡ friction_sum part = ap (λ (v : Cut). v.sum) y.0 ∙ ap friction_sum is in
-        let on : soil_at (rows_of log) s.top ≡ x.soil = w.alike s.top (omega arith) w.some in
-        let last : soil_at (rows_of log) (x.bottom - 1) ≡ x.soil = w.alike (x.bottom - 1) (omega (arith, w.some)) (omega (arith, w.some)) in
+        let on : soil_at (rows_of log.bytes.now) s.top ≡ x.soil = w.alike s.top (omega arith) w.some in
+        let last : soil_at (rows_of log.bytes.now) (x.bottom - 1) ≡ x.soil = w.alike (x.bottom - 1) (omega (arith, w.some)) (omega (arith, w.some)) in
         let top : t.top ≡ x.bottom = ap (λ (v : Strata). v.top) n.on in
         record {
           can = can;
-          log_is = ap (λ (v : Strata). v.log.now) n.on ∙ g.log_is;
+          log_is = ap (λ (v : Strata). v.log) n.on ∙ g.log_is;
           tip_is = ap (λ (v : Strata). v.tip) n.on ∙ g.tip_is;
           cut = g.cut ++ part;
-          rest = more ∙ ap (λ (v : ℕ). (g.cut ++ part) ++ left_of (rows_of log) p v) (sym top);
+          rest = more ∙ ap (λ (v : ℕ). (g.cut ++ part) ++ left_of (rows_of log.bytes.now) p v) (sym top);
           table = rw (count, z, is) (filled_all size g.cut part bytes shaft.used room g.table);
           sums = omega (arith, g.sums, sum_is, sum_append g.cut part);
           small = omega (arith, g.small, y.1, w.some, top, n.top_is);
           parted = rw top (λ k l. rw last (w.parted l));
           soil = rw top (λ k. sym (w.alike p.tip high k));
-          top_is = rw top (λ k. n.top_is ∙ sym (top_here (soil_at (rows_of log)) p.tip s.top x.bottom high k (λ m j v. w.alike m j v ∙ sym on) (λ o. g.parted o high)));
+          top_is = rw top (λ k. n.top_is ∙ sym (top_here (soil_at (rows_of log.bytes.now)) p.tip s.top x.bottom high k (λ m j v. w.alike m j v ∙ sym on) (λ o. g.parted o high)));
         }
 
   -- the tip stands on the last of them
@@ -152,13 +152,13 @@ module _ {log : List ℕ} {p : Pile} {size : ℕ} (a : Ready log p size) {bytes 
     below : p.tip < s.top
     below = omega (arith, g.tip_is)
 
-    all_cut : cut_of (rows_of log) p ≡ g.cut
+    all_cut : cut_of (rows_of log.bytes.now) p ≡ g.cut
     unfolding slice_each
-    all_cut = g.rest ∙ ap (λ (z : List Slice). g.cut ++ z) (ap (slice_each p) (no_pieces (soil_at (rows_of log)) (max p.head s.top) (p.tip - max p.head s.top) (omega (arith, below)))) ∙ append-nil g.cut
+    all_cut = g.rest ∙ ap (λ (z : List Slice). g.cut ++ z) (ap (slice_each p) (no_pieces (soil_at (rows_of log.bytes.now)) (max p.head s.top) (p.tip - max p.head s.top) (omega (arith, below)))) ∙ append-nil g.cut
 
-    pub all : (shaft ≡ shaft_of (rows_of log) p) × (shaft.sum ≤ weight_bound * p.tip)
+    pub all : (shaft ≡ shaft_of (rows_of log.bytes.now) p) × (shaft.sum ≤ weight_bound * p.tip)
     unfolding shaft_of
     all = (rw (all_cut, g.sums, ← g.table.0, g.soil below, g.top_is below) refl, omega (arith, g.small, below))
 
-    pub all_bytes : bytes ≡ table_bytes size (cut_of (rows_of log) p)
+    pub all_bytes : bytes ≡ table_bytes size (cut_of (rows_of log.bytes.now) p)
     all_bytes = g.table.1 ∙ ap (table_bytes size) (sym all_cut)

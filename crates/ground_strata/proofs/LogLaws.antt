@@ -10,9 +10,8 @@ use Rattle.rules.specs.declared.Row.{Row}
 use Rattle.rules.specs.Records.{row_size}
 use Rattle.rules.specs.Packed.{row_at, rows_from, count_of, rows_of}
 use Rattle.rules.specs.Ground.{depth_of, soil_of, soil_at}
-use Rattle.rules.specs.Checks.{Passed}
 use Rattle.rules.proofs.GroundLaws.{soil_here, soil_below}
-use Rattle.rules.proofs.PassedLaws.{known, count_length}
+use Rattle.rules.proofs.PassedLaws.{count_length}
 use Rattle.rules.proofs.SpliceLaws.{depth_parts}
 
 -- r is row i of the rows, and where it ends
@@ -36,10 +35,6 @@ row_left s i r h e =
     let rs = rows_of s in
     let l : drop i rs ≡ r ∷ drop (i + 1) rs = rw (add-one i, e) (from_row s 1 (count_of s) i h) in
     record { left = l; ends = omega (arith, depth_parts rs i, depth_parts rs (i + 1), ap depth_of l); inside = omega (arith, depth_parts rs (i + 1)) }
-
--- its bytes lie in the log
-pub row_fits : (s : List ℕ) (i : ℕ) → Passed s → i < count_of s → 1 + i * row_size + row_size ≤ length s
-row_fits s i p h = let k = known s p in omega arith
 
 -- past the last row none is left
 module _ (s : List ℕ) (i : ℕ) (h : count_of s ≤ i) where

@@ -1,10 +1,9 @@
 -- The stratum that begins at a row, said of millimetres.
 use Rattle.std.specs.Prelude.{◌≡◌, false, List, ℕ, ◌+◌, ◌*◌, ◌-◌, ◌<◌, ◌≤◌, take, Option, MatchOption}
-use denote.Ref.{Bor}
 use Rattle.rules.specs.Records.{row_size}
 use Rattle.rules.specs.Packed.{count_of, row_at, rows_of}
 use Rattle.rules.specs.Ground.{depth_of, same, soil_of, soil_at}
-use Rattle.rules.specs.Checks.{Passed}
+use Rattle.record_log_checks.specs.declared.checked.CheckedLog.{CheckedLog}
 use Rattle.ground_strata.specs.declared.StratumFound.{StratumFound}
 use Rattle.ground_strata.specs.declared.Stratum.{Stratum}
 use Rattle.ground_strata.specs.declared.Strata.{Strata}
@@ -29,18 +28,17 @@ pub record Reaches (log : List ℕ) (first top tip : ℕ) (r : StratumFound) : T
 
 -- the walk down a log's strata: row `next` begins where the next stratum does, and more than the tip lies above the log's end
 pub record Walks (s : Strata) : Type 0 where
-  pub passed : Passed s.log.now
-  pub deep : s.tip < depth_of (rows_of s.log.now)
-  pub top_is : s.top ≡ depth_of (take s.next (rows_of s.log.now))
+  pub deep : s.tip < s.log.depth
+  pub top_is : s.top ≡ depth_of (take s.next (rows_of s.log.bytes.now))
 
 -- all of them are left
-abbrev pub from_ground : Bor (List ℕ) → ℕ → Strata
+abbrev pub from_ground : CheckedLog → ℕ → Strata
 from_ground log tip = record { log = log; tip = tip; next = 0; top = 0 }
 
 -- x is the stratum that s begins with, and t has those below it
 pub record Next (s : Strata) (x : Stratum) (t : Strata) : Type 0 where
   pub high : s.top ≤ s.tip
-  pub reaches : Reaches s.log.now s.next s.top s.tip (record { soil = x.soil; bottom = x.bottom; next = t.next })
+  pub reaches : Reaches s.log.bytes.now s.next s.top s.tip (record { soil = x.soil; bottom = x.bottom; next = t.next })
   pub top_is : x.top ≡ s.top
   pub on : t ≡ record { log = s.log; tip = s.tip; next = t.next; top = x.bottom }
 

@@ -1,16 +1,12 @@
 // The strata along the rows of a log: each from the row at which it begins, as long as the soil stays the same.
 #![tactic(auto)]
 
-ghost use Rattle.std.specs.Prelude.{◌≡◌, ◌+◌, ◌*◌, ◌-◌, ◌<◌};
-ghost use Rattle.rules.specs.Records.{row_size};
-ghost use Rattle.rules.specs.Packed.{count_of, row_at, rows_of};
-ghost use Rattle.rules.specs.Checks.{Passed};
+ghost use Rattle.std.specs.Prelude.{◌≡◌, ◌+◌, ◌-◌, ◌<◌};
 ghost use Rattle.std.specs.Iterator.{at_most};
-ghost use Rattle.rules.specs.Ground.{depth_of};
 ghost use Rattle.ground_strata.specs.Strata.{Begins, Reaches, Walks, Goes, from_ground};
 
-use record_rows::row_inside;
-use rules::{ROW_SIZE, Row, Soil};
+use record_log_checks::CheckedLog;
+use rules::Soil;
 
 // Its soil, the depth down to which it goes, and the row that comes next, counted from 0.
 #[derive(Clone, Copy)]
@@ -20,27 +16,18 @@ pub struct StratumFound {
     pub next: usize,
 }
 
-// A row of the log by its number, counted from 0.
-#[tactic(auto, using(crate::proofs::LogLaws::row_fits))]
-fn row_number(log: &[u8], number: usize) -> Row
-    requires { Passed log.now × (number < count_of log.now) }
-    ensures { result ≡ row_at log.now (1 + number * row_size) }
-{
-    row_inside(log, 1 + number * ROW_SIZE)
-}
-
 // Rows are taken while the soil stays the same, and none below the millimetre that the tip stands on. The log goes on below the tip,
 // so nothing asks where it ends.
-pub fn stratum_from(log: &[u8], first: usize, top: u64, tip: u64) -> StratumFound
-    requires { Passed log.now × Begins log.now first top tip }
-    ensures { Reaches log.now first top tip result }
+pub fn stratum_from(log: CheckedLog<'_>, first: usize, top: u64, tip: u64) -> StratumFound
+    requires { Begins log.bytes.now first top tip }
+    ensures { Reaches log.entry.bytes.now first top tip result }
 {
-    let row = row_number(log, first);
+    let row = log.row(first);
     let soil = Soil::from(row);
     let mut bottom = top + u64::from(row.thickness);
     let mut next = first + 1;
     while bottom <= tip {
-        let below = row_number(log, next);
+        let below = log.row(next);
         if soil != Soil::from(below) {
             return StratumFound { soil, bottom, next };
         }
@@ -61,15 +48,15 @@ pub struct Stratum {
 // What is left of a log's strata, from the ground down to the one that the tip stands on: the next one's first row and its top.
 #[derive(Drop)]
 pub struct Strata<'a> {
-    log: &'a [u8],
+    log: CheckedLog<'a>,
     tip: u64,
     next: usize,
     top: u64,
 }
 
 impl<'a> Strata<'a> {
-    pub fn down_to(log: &'a [u8], tip: u64) -> Strata<'a>
-        requires { Passed log.now × (tip < depth_of (rows_of log.now)) }
+    pub fn down_to(log: CheckedLog<'a>, tip: u64) -> Strata<'a>
+        requires { tip < log.depth }
         ensures { result ≡ from_ground log.entry tip }
     {
         Strata {

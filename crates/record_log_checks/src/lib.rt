@@ -10,6 +10,9 @@ ghost use Rattle.rules.specs.Checks.{first_wrong};
 ghost use Rattle.rules.specs.Faults.{row_field_number, refusal_of, refusal_in};
 ghost use Rattle.rules.proofs.Groups.{field_checks, content_checks};
 
+mod checked;
+
+pub use checked::CheckedLog;
 use record_row_ranges::{row_field, row_good};
 use record_rows::row_inside;
 use record_unused::unused_wrong;
@@ -54,16 +57,16 @@ fn check_fields(s: &[u8]) -> Result<u64, Fault>
     check_rows(s, s[0])
 }
 
-// Checks 2 to 4; the depth of the rows. Makes no Log: the rows are read from the bytes again where they are needed.
-#[tactic(auto, unfolding(rules::proofs::Groups::content_checks, rules::specs::Base::first, rules::specs::Base::when))]
-pub fn check_content(s: &[u8]) -> Result<u64, Fault>
+// Checks 2 to 4; the log past them. Makes no Log: the rows are read from the bytes again where they are needed.
+#[tactic(auto, using(crate::proofs::CheckedLaws::passed), unfolding(rules::proofs::Groups::content_checks, rules::specs::Base::first, rules::specs::Base::when))]
+pub fn check_content(s: &[u8]) -> Result<CheckedLog<'_>, Fault>
     requires { 0 < limit_of s.now }
     ensures refusal { refusal_in result ≡ content_checks s.now }
-    ensures depth { IfOk result (λ depth. depth ≡ depth_of (rows_of s.now)) }
+    ensures log { IfOk result (λ log. (log.bytes ≡ s.entry) × (log.depth ≡ depth_of (rows_of s.now))) }
 {
     let depth = check_fields(s)?;
     if DEPTH_LIMIT < depth {
         return Err(Fault::TooDeep);
     }
-    Ok(depth)
+    Ok(CheckedLog { bytes: s, depth })
 }

@@ -1,5 +1,5 @@
 -- That each contract of the layer answer settles its reply.
-use Rattle.std.specs.Prelude.{ℕ, Option, Some, Result, Ok, Err, IfOk, unwrap_or}
+use Rattle.std.specs.Prelude.{ℕ, Option, Some, Result, IfOk, unwrap_or}
 use mathlib.Core.Path.{◌≡◌, sym, ◌∙◌, ap, subst}
 use Rattle.rules.specs.declared.faults.Fault.{Fault}
 use Rattle.rules.specs.Faults.{refusal_in}

@@ -1,11 +1,24 @@
 -- That each contract of the layer record settles its reply.
-use mathlib.Core.Path.{◌≡◌, refl, sym, ◌∙◌}
+use Rattle.std.specs.Prelude.{Result, IfOk}
+use mathlib.Core.Path.{◌≡◌, refl, sym, ◌∙◌, subst}
+use mathlib.Core.HLevel.{is_prop→PathP}
+use mathlib.Core.Bool.{false, Bool-set}
+use mathlib.Core.List.{List}
 use Prim.Native.Nat.{ℕ}
 use mir.Syntax.{w64}
 use mir.Val.{Fits}
 use native.Mathlib.Omega.{arith}
-use Rattle.settled.proofs.Outcomes.{one_outcome, one_check, one_fault, one_row_field, one_limit}
+use native.Mathlib.Nat.{ℕ_set}
+use denote.Ref.{Bor}
+use Rattle.rules.specs.declared.faults.Fault.{Fault}
+use Rattle.rules.specs.Base.{refuses}
+use Rattle.rules.specs.Packed.{rows_of}
+use Rattle.rules.specs.Ground.{depth_of}
+use Rattle.rules.specs.Checks.{log_checks, Passed}
+use Rattle.rules.specs.Faults.{refusal_in}
+use Rattle.settled.proofs.Outcomes.{one_reply, one_check, one_fault, one_row_field, one_limit}
 use Rattle.record_bits.specs.declared.Cursor.{Cursor}
+use Rattle.record_log_checks.specs.declared.checked.CheckedLog.{CheckedLog}
 use Rattle.settled.proofs.Settled.{Settled}
 use Rattle.record_bits.proofs as record_bits
 use Rattle.record_words.proofs as record_words
@@ -90,8 +103,30 @@ count_wrong _ _ _ h g = cc
 pub unused_wrong : Settled record_unused.unused_wrong.Kinds.ps record_unused.unused_wrong.Kinds.r record_unused.unused_wrong.Reads.Pre record_unused.unused_wrong.Reads.Learnt
 unused_wrong _ _ _ h g = cc
 
+-- a log past its checks is told by its bytes and its depth
+checked : {r s : CheckedLog} → r.bytes ≡ s.bytes → r.depth ≡ s.depth → r ≡ s
+checked {r} {s} b d = λ i. record {
+  bytes = b i;
+  depth = d i;
+  passed = is_prop→PathP (λ k. Passed (b k).now) (λ k. Bool-set (refuses (log_checks (b k).now)) false) r.passed s.passed i;
+  deep = is_prop→PathP (λ k. d k ≡ depth_of (rows_of (b k).now)) (λ k. ℕ_set (d k) (depth_of (rows_of (b k).now))) r.deep s.deep i;
+}
+
+module _ (s : Bor (List ℕ)) (n : ℕ) where
+  abbrev Is : CheckedLog → Type 0
+  Is log = (log.bytes ≡ s) × (log.depth ≡ n)
+
+  both : {r q : CheckedLog} → Is r → Is q → r ≡ q
+  both x y = checked (x.0 ∙ sym y.0) (x.1 ∙ sym y.1)
+
+  one_log : (r q : Result CheckedLog Fault) → refusal_in r ≡ refusal_in q → IfOk r Is → IfOk q Is → r ≡ q
+  one_log r q h x y = one_reply r q h (λ a b e f. both (subst (λ t. IfOk t Is) e x) (subst (λ t. IfOk t Is) f y))
+
 pub check_content : Settled record_log_checks.check_content.Kinds.ps record_log_checks.check_content.Kinds.r record_log_checks.check_content.Reads.Pre record_log_checks.check_content.Reads.Learnt
-check_content _ b d h g = one_outcome _ b.value d.value (h.0 ∙ sym g.0) h.1 g.1
+check_content _ b d h g = one_log _ _ b.value d.value (h.0 ∙ sym g.0) h.1 g.1
+
+pub row : Settled record_log_checks.checked.CheckedLog.row.Kinds.ps record_log_checks.checked.CheckedLog.row.Kinds.r record_log_checks.checked.CheckedLog.row.Reads.Pre record_log_checks.checked.CheckedLog.row.Reads.Learnt
+row _ _ _ h g = cc
 
 pub read_log : Settled record_logs.read_log.Kinds.ps record_logs.read_log.Kinds.r record_logs.read_log.Reads.Pre record_logs.read_log.Reads.Learnt
 read_log _ _ _ h g = cc

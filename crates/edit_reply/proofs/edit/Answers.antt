@@ -11,11 +11,14 @@ change-requires-clause-passed c = let a = allowed _ _ _ _ (ap refuses (sym c.in-
 pub change-requires-clause-brought : goal.change-requires-clause-brought
 change-requires-clause-brought c = (allowed _ _ _ _ (ap refuses (sym c.in-Ok.ensures.refusal))).row
 
+pub invariant_of-hold-clause-passed : goal.invariant_of-hold-clause-passed
+invariant_of-hold-clause-passed c = now_passed _ _ _ _ (ap refuses (sym c.in-Ok.ensures.refusal)) _ c.change.ensures
+
+pub invariant_of-hold-clause-deep : goal.invariant_of-hold-clause-deep
+invariant_of-hold-clause-deep c = now_deep _ _ _ _ (ap refuses (sym c.in-Ok.ensures.refusal)) _ c.change.ensures _ c.in-Ok.ensures.depth
+
 pub hold-requires : goal.hold-requires
-hold-requires c =
-    let fair = ap refuses (sym c.in-Ok.ensures.refusal) in
-    let e = c.change.ensures in
-    (now_passed _ _ _ _ fair _ e, now_deep _ _ _ _ fair _ e _ c.in-Ok.ensures.depth, now_long _ _ _ _ fair _ e)
+hold-requires c = now_long _ _ _ _ (ap refuses (sym c.in-Ok.ensures.refusal)) _ c.change.ensures
 
 pub returns-in-Ok : goal.returns-in-Ok
 returns-in-Ok c =

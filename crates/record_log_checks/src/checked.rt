@@ -1,0 +1,29 @@
+// A log past checks 1 to 4, with how deep it is.
+ghost use Rattle.std.specs.Prelude.{◌≡◌, ◌+◌, ◌*◌, ◌<◌};
+ghost use Rattle.rules.specs.Records.{row_size};
+ghost use Rattle.rules.specs.Packed.{count_of, row_at, rows_of};
+ghost use Rattle.rules.specs.Ground.{depth_of};
+ghost use Rattle.rules.specs.Checks.{Passed};
+
+use record_rows::row_inside;
+use rules::{ROW_SIZE, Row};
+
+// Whoever holds one may read its rows by number: each lies in the bytes.
+#[derive(Clone, Copy)]
+pub struct CheckedLog<'a> {
+    pub bytes: &'a [u8],
+    pub depth: u64,
+    pub ghost passed: { Passed bytes.now },
+    pub ghost deep: { depth ≡ depth_of (rows_of bytes.now) },
+}
+
+impl<'a> CheckedLog<'a> {
+    // A row by its number, counted from 0.
+    #[tactic(auto, using(crate::proofs::CheckedLaws::row_fits))]
+    pub fn row(self, number: usize) -> Row
+        requires { number < count_of self.bytes.now }
+        ensures { result ≡ row_at self.entry.bytes.now (1 + number * row_size) }
+    {
+        row_inside(self.bytes, 1 + number * ROW_SIZE)
+    }
+}
