@@ -6,13 +6,14 @@ use Prim.Native.Nat.{ℕ, ◌+◌, ◌*◌, ◌-◌, ◌<◌, ◌≤◌, min, ma
 use native.Mathlib.Omega.{arith}
 use lib.ListN.{length, replicate, length-append}
 use Rattle.rules.specs.declared.Row.{Row}
+use Rattle.rules.specs.declared.Soil.{Soil}
 use Rattle.rules.specs.declared.Pile.{Pile}
 use Rattle.rules.specs.declared.Slice.{Slice}
-use Rattle.rules.specs.Records.{slice_size}
+use Rattle.rules.specs.Records.{row_size, slice_size}
 use Rattle.rules.specs.Limits.{limit_of, places_for}
 use Rattle.rules.specs.Bounds.{weight_bound}
-use Rattle.rules.specs.Packed.{rows_of, table_bytes}
-use Rattle.rules.specs.Ground.{depth_of, same, soil_at}
+use Rattle.rules.specs.Packed.{count_of, row_at, rows_of, table_bytes}
+use Rattle.rules.specs.Ground.{depth_of, same, soil_at, soil_of}
 use Rattle.rules.specs.Pieces.{Piece, pieces_from, pieces, run_top}
 use Rattle.rules.specs.Numbers.{slice_of, slice_each, friction_sum}
 use Rattle.rules.proofs.PassedLaws.{known}
@@ -49,7 +50,7 @@ abbrev pub part_of : Pile → ℕ → StratumFound → List Slice
 part_of p top r = slices_in p r.soil (max p.head top) (min p.tip r.bottom)
 
 -- every stratum above what is left is cut
-pub record Doing (log : CheckedLog) (p : Pile) (size : ℕ) (bytes : List ℕ) (shaft : Shaft) (s : Strata) : Type 0 where
+pub record Doing (log : CheckedLog) (p : Pile) (size : ℕ) (bytes : List ℕ) (shaft : Shaft) (first : ℕ) (s : Strata) : Type 0 where
   pub can : Walks s
   pub log_is : s.log ≡ log
   pub tip_is : s.tip ≡ p.tip
@@ -59,13 +60,14 @@ pub record Doing (log : CheckedLog) (p : Pile) (size : ℕ) (bytes : List ℕ) (
   pub sums : shaft.sum ≡ friction_sum cut
   pub small : shaft.sum ≤ weight_bound * min p.tip s.top
   pub parted : 0 < s.top → s.top ≤ p.tip → same (soil_at (rows_of log.bytes.now) (s.top - 1)) (soil_at (rows_of log.bytes.now) s.top) ≡ false
-  pub soil : p.tip < s.top → shaft.soil ≡ soil_at (rows_of log.bytes.now) p.tip
+  pub row : p.tip < s.top → first < count_of log.bytes.now
+  pub soil : p.tip < s.top → soil_of (row_at log.bytes.now (1 + first * row_size)) ≡ soil_at (rows_of log.bytes.now) p.tip
   pub top_is : p.tip < s.top → shaft.top ≡ run_top (soil_at (rows_of log.bytes.now)) (soil_at (rows_of log.bytes.now) p.tip) p.tip
 
-pub doing_none : (log : CheckedLog) (p : Pile) (size : ℕ) (bytes : List ℕ) (shaft : Shaft) (s : Strata) → Ready log p size → bytes ≡ replicate size 0
-    → shaft.used ≡ 0 → shaft.sum ≡ 0 → s ≡ from_ground log p.tip → Doing log p size bytes shaft s
+pub doing_none : (log : CheckedLog) (p : Pile) (size : ℕ) (bytes : List ℕ) (shaft : Shaft) (first : ℕ) (s : Strata) → Ready log p size → bytes ≡ replicate size 0
+    → shaft.used ≡ 0 → shaft.sum ≡ 0 → s ≡ from_ground log p.tip → Doing log p size bytes shaft first s
 unfolding pieces friction_sum depth_of
-doing_none log p size bytes shaft s a e u z f =
+doing_none log p size bytes shaft first s a e u z f =
     let top : s.top ≡ 0 = ap (λ (x : Strata). x.top) f in
     let h : max p.head s.top ≡ p.head = omega arith in
     record {
@@ -78,6 +80,7 @@ doing_none log p size bytes shaft s a e u z f =
       sums = z;
       small = omega arith;
       parted = λ k l. absurd (omega arith);
+      row = λ k. absurd (omega arith);
       soil = λ k. absurd (omega arith);
       top_is = λ k. absurd (omega arith);
     }
@@ -88,7 +91,7 @@ few {log} {p} a =
     let k = known log.bytes.now log.passed in
     slices_room (rows_of log.bytes.now) p (limit_of log.bytes.now) (omega (arith, k.rows, k.few)) (omega (arith, a.deep, log.deep)) a.near
 
-module _ {log : CheckedLog} {p : Pile} {size : ℕ} (a : Ready log p size) {bytes : List ℕ} {shaft : Shaft} {s : Strata} (g : Doing log p size bytes shaft s) where
+module _ {log : CheckedLog} {p : Pile} {size : ℕ} (a : Ready log p size) {bytes : List ℕ} {shaft : Shaft} {first : ℕ} {s : Strata} (g : Doing log p size bytes shaft first s) where
   pub doing_long : length bytes ≡ size
   doing_long = filled_long size g.cut bytes shaft.used (omega (arith, a.room, few a, ap length g.rest, length-append g.cut (left_of (rows_of log.bytes.now) p s.top), g.table.0)) g.table
 
@@ -124,7 +127,7 @@ module _ {log : CheckedLog} {p : Pile} {size : ℕ} (a : Ready log p size) {byte
     pub doing_more : (from end : ℕ) (q : Cut) (e : List ℕ) → Walks t → from ≡ max p.head x.top → end ≡ min p.tip x.bottom
         → (q ≡ record { used = shaft.used + length (slices_in p x.soil from end); sum = friction_sum (slices_in p x.soil from end) }) × (q.sum ≤ weight_bound * (end - from))
         → e ≡ put_all bytes shaft.used (slices_in p x.soil from end)
-        → Doing log p size e (record { used = q.used; sum = shaft.sum + q.sum; soil = x.soil; top = x.top }) t
+        → Doing log p size e (record { used = q.used; sum = shaft.sum + q.sum; soil = shaft.soil; top = x.top }) x.first t
     doing_more from end q e can f k y z =
         let w = reaches in
         let is : slices_in p x.soil from end ≡ part = rw (f, k, n.top_is) in
@@ -143,7 +146,8 @@ module _ {log : CheckedLog} {p : Pile} {size : ℕ} (a : Ready log p size) {byte
           sums = omega (arith, g.sums, sum_is, sum_append g.cut part);
           small = omega (arith, g.small, y.1, w.some, top, n.top_is);
           parted = rw top (λ k l. rw last (w.parted l));
-          soil = rw top (λ k. sym (w.alike p.tip high k));
+          row = λ k. rw n.first_is w.row;
+          soil = rw (top, n.first_is) (λ k. sym (w.alike p.tip high k ∙ w.own));
           top_is = rw top (λ k. n.top_is ∙ sym (top_here (soil_at (rows_of log.bytes.now)) p.tip s.top x.bottom high k (λ m j v. w.alike m j v ∙ sym on) (λ o. g.parted o high)));
         }
 
@@ -156,9 +160,14 @@ module _ {log : CheckedLog} {p : Pile} {size : ℕ} (a : Ready log p size) {byte
     unfolding slice_each
     all_cut = g.rest ∙ ap (λ (z : List Slice). g.cut ++ z) (ap (slice_each p) (no_pieces (soil_at (rows_of log.bytes.now)) (max p.head s.top) (p.tip - max p.head s.top) (omega (arith, below)))) ∙ append-nil g.cut
 
-    pub all : (shaft ≡ shaft_of (rows_of log.bytes.now) p) × (shaft.sum ≤ weight_bound * p.tip)
+    -- with the soil of that row
+    pub all : (soil : Soil) → soil ≡ soil_of (row_at log.bytes.now (1 + first * row_size))
+        → (record { used = shaft.used; sum = shaft.sum; soil = soil; top = shaft.top } ≡ shaft_of (rows_of log.bytes.now) p) × (shaft.sum ≤ weight_bound * p.tip)
     unfolding shaft_of
-    all = (rw (all_cut, g.sums, ← g.table.0, g.soil below, g.top_is below) refl, omega (arith, g.small, below))
+    all soil e = (rw (all_cut, g.sums, ← g.table.0, e, g.soil below, g.top_is below) refl, omega (arith, g.small, below))
+
+    pub row_there : first < count_of log.bytes.now
+    row_there = g.row below
 
     pub all_bytes : bytes ≡ table_bytes size (cut_of (rows_of log.bytes.now) p)
     all_bytes = g.table.1 ∙ ap (table_bytes size) (sym all_cut)

@@ -33,14 +33,17 @@ pub fn cut_shaft(log: CheckedLog<'_>, pile: Pile, table: &mut [u8]) -> Shaft
     let head = u64::from(pile.head);
     let tip = u64::from(pile.tip);
     let mut shaft = Shaft::default();
+    // The row at which the stratum that was cut last begins: to keep its soil from turn to turn would take longer than to read it again.
+    let mut first = 0;
     for stratum in Strata::down_to(log, tip) {
         let from = head.max(stratum.top);
         let end = tip.min(stratum.bottom);
         let part = cut_part(&rows, table, shaft.used, pile, stratum.soil, from, end);
         shaft.used = part.used;
         shaft.sum += part.sum;
-        shaft.soil = stratum.soil;
         shaft.top = stratum.top;
+        first = stratum.first;
     }
+    shaft.soil = Soil::from(log.row(first));
     shaft
 }

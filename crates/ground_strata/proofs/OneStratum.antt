@@ -49,7 +49,8 @@ one_step s (Some x) None t v w z = let h = w.high in absurd (omega arith)
 one_step s (Some x) (Some y) t v w z =
     let o = one_stratum w.reaches z.reaches in
     let soil : x.soil ≡ y.soil = ap (λ (r : StratumFound). r.soil) o in
+    let first : x.first ≡ y.first = w.first_is ∙ sym z.first_is in
     let top : x.top ≡ y.top = w.top_is ∙ sym z.top_is in
     let bottom : x.bottom ≡ y.bottom = ap (λ (r : StratumFound). r.bottom) o in
     let next : t.next ≡ v.next = ap (λ (r : StratumFound). r.next) o in
-    ((λ i. Some (record { soil = soil i; top = top i; bottom = bottom i })), w.on ∙ (λ i. record { log = s.log; tip = s.tip; next = next i; top = bottom i }) ∙ sym z.on)
+    ((λ i. Some (record { soil = soil i; first = first i; top = top i; bottom = bottom i })), w.on ∙ (λ i. record { log = s.log; tip = s.tip; next = next i; top = bottom i }) ∙ sym z.on)

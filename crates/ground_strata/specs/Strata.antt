@@ -39,6 +39,7 @@ from_ground log tip = record { log = log; tip = tip; next = 0; top = 0 }
 pub record Next (s : Strata) (x : Stratum) (t : Strata) : Type 0 where
   pub high : s.top ≤ s.tip
   pub reaches : Reaches s.log.bytes.now s.next s.top s.tip (record { soil = x.soil; bottom = x.bottom; next = t.next })
+  pub first_is : x.first ≡ s.next
   pub top_is : x.top ≡ s.top
   pub on : t ≡ record { log = s.log; tip = s.tip; next = t.next; top = x.bottom }
 

@@ -37,10 +37,11 @@ pub fn stratum_from(log: CheckedLog<'_>, first: usize, top: u64, tip: u64) -> St
     StratumFound { soil, bottom, next }
 }
 
-// A stratum of a log: its soil, its top and its bottom.
+// A stratum of a log: its soil, the row at which it begins, counted from 0, its top and its bottom.
 #[derive(Clone, Copy)]
 pub struct Stratum {
     pub soil: Soil,
+    pub first: usize,
     pub top: u64,
     pub bottom: u64,
 }
@@ -81,12 +82,14 @@ impl<'a> Iterator for Strata<'a> {
         if self.tip < self.top {
             return None;
         }
+        let first = self.next;
         let top = self.top;
-        let found = stratum_from(self.log, self.next, top, self.tip);
+        let found = stratum_from(self.log, first, top, self.tip);
         self.next = found.next;
         self.top = found.bottom;
         Some(Stratum {
             soil: found.soil,
+            first,
             top,
             bottom: found.bottom,
         })

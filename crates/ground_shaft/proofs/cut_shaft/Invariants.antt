@@ -4,4 +4,4 @@ use Rattle.ground_shaft.proofs.CutLaws.{Doing}
 use Rattle.ground_shaft.proofs.cut_shaft.Given as goal
 
 abbrev pub invariant-loop-stratum : goal.invariant-loop-stratum
-invariant-loop-stratum l = Doing l.log l.pile (length l.fn.table) l.table l.shaft l.stratum-iterator
+invariant-loop-stratum l = Doing l.log l.pile (length l.fn.table) l.table l.shaft l.first l.stratum-iterator
