@@ -7,7 +7,7 @@ ghost use Rattle.rules.specs.Records.{row_from, row_size, row_widths};
 ghost use Rattle.rules.specs.Packed.{row_at, no_row};
 
 use record_bits::Cursor;
-use record_words::{number_of, whole_number};
+use record_words::{number_of, whole_five};
 use rules::{ROW_INDEX, ROW_KIND, ROW_SATURATION, ROW_SIZE, ROW_THICKNESS, ROW_ZERO, Row};
 
 // The row in the number of its five bytes.
@@ -47,5 +47,5 @@ pub fn row_inside(s: &[u8], i: usize) -> Row
     requires { i + row_size ≤ length s.now }
     ensures { result ≡ row_at s.now i }
 {
-    row_of(whole_number::<ROW_SIZE>(&s[i..]))
+    row_of(whole_five(&s[i..]))
 }

@@ -1,13 +1,14 @@
 -- Bytes as one number, as the library adds them up: of a whole word, behind zeros, and before zeros.
 use mathlib.Core.Path.{◌≡◌, sym, ◌∙◌, ap}
 use mathlib.Core.List.{List, ◌++◌, append-nil}
-use Prim.Native.Nat.{ℕ, zero, suc, ◌+◌, ◌-◌, ◌≤◌}
+use Prim.Native.Nat.{ℕ, zero, suc, ◌+◌, ◌*◌, ◌-◌, ◌≤◌}
 use native.Mathlib.Nat.{zero-mul, zero-add}
 use native.Mathlib.Omega.{arith}
-use lib.ListN.{length, take, drop, replicate, take-append-drop}
+use lib.ListN.{get_or, length, take, drop, replicate, take-append-drop}
 use lib.Seq.{get_or-drop, length-take-le}
 use Rattle.std.proofs.lemmas.List.{take-replicate, drop-replicate}
 use Rattle.std.specs.Int.{from_be_bytes, w64}
+use Rattle.rules.specs.Records.{row_size}
 use Rattle.rules.specs.Packed.{number_at}
 use Rattle.rules.proofs.WidthLaws.{number_front, number_behind}
 use Rattle.record_bits.specs.Word.{word_size}
@@ -16,6 +17,12 @@ use Rattle.base_copies.proofs.CopyLaws.{with}
 pub word_is : (b : List ℕ) → from_be_bytes w64 b ≡ number_at b 0 word_size
 unfolding number_at
 word_is b = simp get_or-drop (omega arith)
+
+-- a row's thickness and its soil, joined apart
+pub five_are : (s : List ℕ)
+    → (get_or s 0 0 * 256 + get_or s 1 0) * 16777216 + ((get_or s 2 0 * 256 + get_or s 3 0) * 256 + get_or s 4 0) ≡ number_at s 0 row_size
+unfolding number_at
+five_are s = simp get_or-drop (omega arith)
 
 -- zeros before a number
 zeros_before : (k n m : ℕ) (s : List ℕ) → m ≡ k + n → number_at (replicate k 0 ++ s) 0 m ≡ number_at s 0 n

@@ -49,6 +49,9 @@ take _ _ _ h g = (cc, cursor (cc) (cc))
 pub put : Settled record_bits.Cursor.put.Kinds.ps record_bits.Cursor.put.Kinds.r record_bits.Cursor.put.Reads.Pre record_bits.Cursor.put.Reads.Learnt
 put _ _ _ h g = (refl, cursor (cc) (cc))
 
+pub whole_five : Settled record_words.whole_five.Kinds.ps record_words.whole_five.Kinds.r record_words.whole_five.Reads.Pre record_words.whole_five.Reads.Learnt
+whole_five _ _ _ h g = cc
+
 pub whole_number : (n : ℕ) (fits : Fits w64 n) → Settled (record_words.whole_number.Kinds.ps n fits) (record_words.whole_number.Kinds.r n fits) (record_words.whole_number.Reads.Pre n fits) (record_words.whole_number.Reads.Learnt n fits)
 whole_number _ _ _ _ _ h g = cc
 
