@@ -33,19 +33,19 @@ pub struct Worked {
 // So a refusal may leave slices in the table.
 #[tactic(auto, using(crate::proofs::WorkLaws::by_pile, crate::proofs::WorkLaws::by_depth, crate::proofs::WorkLaws::by_tip, crate::proofs::WorkLaws::cleared, crate::proofs::WorkLaws::answer_is, crate::proofs::WorkLaws::slices_are, crate::proofs::WorkLaws::shaft_top, answer_numbers::proofs::SideLaws::sides), unfolding(ground_shaft::specs::Shafts::shaft_of))]
 fn work_pile(
-    log: CheckedLog<'_>,
+    checked: CheckedLog<'_>,
     pile: Pile,
     extra: Option<SandNumbers>,
     table: &mut [u8],
 ) -> Result<Worked, Fault>
-    requires { table_size (limit_of log.bytes.now) ≤ length table.old }
-    ensures refusal { refusal_in result ≡ ground_checks (soil_at (rows_of log.entry.bytes.now)) (depth_of (rows_of log.entry.bytes.now)) pile extra }
-    ensures worked { IfOk result (λ work. (work.answer ≡ answer_of (rows_of log.entry.bytes.now) pile extra) × (work.used ≡ length (held_slices_of (rows_of log.entry.bytes.now) pile extra))) }
-    ensures table { IfOk result (λ work. table.new ≡ table_bytes (length table.old) (held_slices_of (rows_of log.entry.bytes.now) pile extra)) }
+    requires { table_size (limit_of checked.log.bytes.now) ≤ length table.old }
+    ensures refusal { refusal_in result ≡ ground_checks (soil_at (rows_of checked.entry.log.bytes.now)) (depth_of (rows_of checked.entry.log.bytes.now)) pile extra }
+    ensures worked { IfOk result (λ work. (work.answer ≡ answer_of (rows_of checked.entry.log.bytes.now) pile extra) × (work.used ≡ length (held_slices_of (rows_of checked.entry.log.bytes.now) pile extra))) }
+    ensures table { IfOk result (λ work. table.new ≡ table_bytes (length table.old) (held_slices_of (rows_of checked.entry.log.bytes.now) pile extra)) }
 {
     pile_refusal(pile)?;
-    depth_refusal(pile, log.depth)?;
-    let cut = cut_shaft(log, pile, table);
+    depth_refusal(pile, checked.depth)?;
+    let cut = cut_shaft(checked.log, pile, table);
     let tip = Tip {
         pile,
         soil: cut.soil,
@@ -62,17 +62,17 @@ fn work_pile(
 // The answer and the table of a log past its checks, a pile record and its extra record; the table has the places of the log's form. Under a refusal the table becomes all zero.
 #[tactic(auto, using(crate::proofs::WorkLaws::none_worked, record_slice_table::proofs::TableLaws::filled_none), unfolding(rules::specs::Calculation::fresh_answer))]
 pub fn work_out(
-    log: CheckedLog<'_>,
+    checked: CheckedLog<'_>,
     pile: &[u8],
     extra: Option<SandNumbers>,
     table: &mut [u8],
 ) -> Result<Worked, Fault>
-    requires { table_size (limit_of log.bytes.now) ≤ length table.old }
-    ensures refusal { refusal_in result ≡ ground_checks (soil_at (rows_of log.entry.bytes.now)) (depth_of (rows_of log.entry.bytes.now)) (pile_of pile.now) extra }
-    ensures worked { (answer_in result ≡ fresh_answer log.entry.bytes.now pile.now extra) × (used_in result ≡ length (held_slices_of (rows_of log.entry.bytes.now) (pile_of pile.now) extra)) }
-    ensures table { table.new ≡ table_bytes (length table.old) (held_slices_of (rows_of log.entry.bytes.now) (pile_of pile.now) extra) }
+    requires { table_size (limit_of checked.log.bytes.now) ≤ length table.old }
+    ensures refusal { refusal_in result ≡ ground_checks (soil_at (rows_of checked.entry.log.bytes.now)) (depth_of (rows_of checked.entry.log.bytes.now)) (pile_of pile.now) extra }
+    ensures worked { (answer_in result ≡ fresh_answer checked.entry.log.bytes.now pile.now extra) × (used_in result ≡ length (held_slices_of (rows_of checked.entry.log.bytes.now) (pile_of pile.now) extra)) }
+    ensures table { table.new ≡ table_bytes (length table.old) (held_slices_of (rows_of checked.entry.log.bytes.now) (pile_of pile.now) extra) }
 {
-    let work = work_pile(log, take_pile(pile), extra, table);
+    let work = work_pile(checked, take_pile(pile), extra, table);
     if work.is_err() {
         clear_table(table);
     }

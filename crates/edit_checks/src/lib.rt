@@ -63,18 +63,18 @@ fn come(edit: Edit<'_>) -> u64
 
 // Checks 13, 14, 3 and 4 of an edit of a log that passes. The new log's depth comes from the lent one's.
 #[tactic(auto, unfolding(rules::proofs::Groups::change_checks, rules::specs::Base::first, rules::specs::Base::when))]
-fn check_change(log: CheckedLog<'_>, edit: Edit<'_>) -> Result<u64, Fault>
-    ensures refusal { refusal_in result ≡ change_checks (edit_of edit.entry) log.entry.bytes.now }
-    ensures depth { IfOk result (λ deep. deep ≡ depth_of (edited_rows (edit_of edit.entry) (rows_of log.entry.bytes.now))) }
+fn check_change(checked: CheckedLog<'_>, edit: Edit<'_>) -> Result<u64, Fault>
+    ensures refusal { refusal_in result ≡ change_checks (edit_of edit.entry) checked.entry.log.bytes.now }
+    ensures depth { IfOk result (λ deep. deep ≡ depth_of (edited_rows (edit_of edit.entry) (rows_of checked.entry.log.bytes.now))) }
 {
-    if !edit.stands(log.bytes) {
+    if !edit.stands(checked.log.bytes) {
         return Err(Fault::NamesNothing);
     }
-    if edit.full(log.bytes) {
+    if edit.full(checked.log.bytes) {
         return Err(Fault::Full);
     }
     check_new_row(edit)?;
-    let deep = log.depth - gone(log.bytes, edit) + come(edit);
+    let deep = checked.depth - gone(checked.log.bytes, edit) + come(edit);
     if DEPTH_LIMIT < deep {
         return Err(Fault::TooDeep);
     }

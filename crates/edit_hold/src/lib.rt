@@ -13,17 +13,17 @@ use rules::{Answer, Refusal, SandNumbers};
 
 // The changed log is worked out into the table. The table is written in place, so kept is counted against a copy of it.
 pub fn hold(
-    log: CheckedLog<'_>,
+    checked: CheckedLog<'_>,
     pile: &[u8],
     extra: Option<SandNumbers>,
     table: &mut [u8],
 ) -> Answer
-    requires { length table.old ≡ table_size (limit_of log.bytes.now) }
-    ensures reply { result ≡ edit_answer log.entry.bytes.now pile.now extra table.old }
-    ensures table { table.new ≡ fresh_table log.entry.bytes.now pile.now extra }
+    requires { length table.old ≡ table_size (limit_of checked.log.bytes.now) }
+    ensures reply { result ≡ edit_answer checked.entry.log.bytes.now pile.now extra table.old }
+    ensures table { table.new ≡ fresh_table checked.entry.log.bytes.now pile.now extra }
 {
     let old = table_copy(table);
-    match work_out(log, pile, extra, table) {
+    match work_out(checked, pile, extra, table) {
         Ok(work) => {
             let kept = kept_count(table, &old, work.used) as u32;
             Answer {

@@ -8,7 +8,7 @@ ghost use Rattle.edit_naming.specs.Asked.{edit_of};
 use edit_changes::change;
 use edit_checks::check_edit;
 use edit_hold::hold;
-use record_log_checks::CheckedLog;
+use record_log_checks::{CheckedLog, PassedLog};
 use rules::{Answer, Refusal, SandNumbers};
 
 // An edit of a log, with a pile record and its extra record, a slice table and a new row of any lengths: the reply, and the log and table afterwards.
@@ -26,7 +26,8 @@ pub fn edit(
     match check_edit(log, pile, table, edit) {
         Ok(depth) => {
             change(log, edit);
-            hold(CheckedLog { bytes: log, depth }, pile, extra, table)
+            let log = PassedLog { bytes: log };
+            hold(CheckedLog { log, depth }, pile, extra, table)
         }
         Err(fault) => Answer::from(Refusal::from(fault)),
     }

@@ -19,7 +19,7 @@ use Rattle.rules.specs.Numbers.{slice_of, slice_each, friction_sum}
 use Rattle.rules.proofs.PassedLaws.{known}
 use Rattle.rules.proofs.RoomLaws.{slices_room}
 use Rattle.rules.proofs.StratumLaws.{no_pieces, stratum_cut, top_here}
-use Rattle.record_log_checks.specs.declared.checked.CheckedLog.{CheckedLog}
+use Rattle.record_log_checks.specs.declared.checked.PassedLog.{PassedLog}
 use Rattle.record_slice_table.specs.Table.{put_all}
 use Rattle.record_slice_table.proofs.TableLaws.{Filled, filled_none, filled_long, filled_all}
 use Rattle.ground_cuts.specs.declared.Cut.{Cut}
@@ -50,7 +50,7 @@ abbrev pub part_of : Pile → ℕ → StratumFound → List Slice
 part_of p top r = slices_in p r.soil (max p.head top) (min p.tip r.bottom)
 
 -- every stratum above what is left is cut
-pub record Doing (log : CheckedLog) (p : Pile) (size : ℕ) (bytes : List ℕ) (shaft : Shaft) (first : ℕ) (s : Strata) : Type 0 where
+pub record Doing (log : PassedLog) (p : Pile) (size : ℕ) (bytes : List ℕ) (shaft : Shaft) (first : ℕ) (s : Strata) : Type 0 where
   pub can : Walks s
   pub log_is : s.log ≡ log
   pub tip_is : s.tip ≡ p.tip
@@ -64,7 +64,7 @@ pub record Doing (log : CheckedLog) (p : Pile) (size : ℕ) (bytes : List ℕ) (
   pub soil : p.tip < s.top → soil_of (row_at log.bytes.now (1 + first * row_size)) ≡ soil_at (rows_of log.bytes.now) p.tip
   pub top_is : p.tip < s.top → shaft.top ≡ run_top (soil_at (rows_of log.bytes.now)) (soil_at (rows_of log.bytes.now) p.tip) p.tip
 
-pub doing_none : (log : CheckedLog) (p : Pile) (size : ℕ) (bytes : List ℕ) (shaft : Shaft) (first : ℕ) (s : Strata) → Ready log p size → bytes ≡ replicate size 0
+pub doing_none : (log : PassedLog) (p : Pile) (size : ℕ) (bytes : List ℕ) (shaft : Shaft) (first : ℕ) (s : Strata) → Ready log p size → bytes ≡ replicate size 0
     → shaft.used ≡ 0 → shaft.sum ≡ 0 → s ≡ from_ground log p.tip → Doing log p size bytes shaft first s
 unfolding pieces friction_sum depth_of
 doing_none log p size bytes shaft first s a e u z f =
@@ -86,12 +86,12 @@ doing_none log p size bytes shaft first s a e u z f =
     }
 
 -- a shaft has no more slices than a table has places
-few : {log : CheckedLog} {p : Pile} {size : ℕ} → Ready log p size → length (cut_of (rows_of log.bytes.now) p) ≤ places_for (limit_of log.bytes.now)
+few : {log : PassedLog} {p : Pile} {size : ℕ} → Ready log p size → length (cut_of (rows_of log.bytes.now) p) ≤ places_for (limit_of log.bytes.now)
 few {log} {p} a =
     let k = known log.bytes.now log.passed in
-    slices_room (rows_of log.bytes.now) p (limit_of log.bytes.now) (omega (arith, k.rows, k.few)) (omega (arith, a.deep, log.deep)) a.near
+    slices_room (rows_of log.bytes.now) p (limit_of log.bytes.now) (omega (arith, k.rows, k.few)) (omega (arith, a.deep)) a.near
 
-module _ {log : CheckedLog} {p : Pile} {size : ℕ} (a : Ready log p size) {bytes : List ℕ} {shaft : Shaft} {first : ℕ} {s : Strata} (g : Doing log p size bytes shaft first s) where
+module _ {log : PassedLog} {p : Pile} {size : ℕ} (a : Ready log p size) {bytes : List ℕ} {shaft : Shaft} {first : ℕ} {s : Strata} (g : Doing log p size bytes shaft first s) where
   pub doing_long : length bytes ≡ size
   doing_long = filled_long size g.cut bytes shaft.used (omega (arith, a.room, few a, ap length g.rest, length-append g.cut (left_of (rows_of log.bytes.now) p s.top), g.table.0)) g.table
 

@@ -5,17 +5,18 @@ use Rattle.rules.specs.declared.Pile.{Pile}
 use Rattle.rules.specs.declared.Slice.{Slice}
 use Rattle.rules.specs.Limits.{limit_of, table_size, tip_limit}
 use Rattle.rules.specs.Grades.{cut_depth}
-use Rattle.rules.specs.Ground.{soil_at}
+use Rattle.rules.specs.Packed.{rows_of}
+use Rattle.rules.specs.Ground.{depth_of, soil_at}
 use Rattle.rules.specs.Pieces.{run_top}
 use Rattle.rules.specs.Numbers.{below_tip, shaft_slices, friction_sum}
-use Rattle.record_log_checks.specs.declared.checked.CheckedLog.{CheckedLog}
+use Rattle.record_log_checks.specs.declared.checked.PassedLog.{PassedLog}
 use Rattle.ground_shaft.specs.declared.Shaft.{Shaft}
 
 -- a log past its checks that goes on below the tip, a head that no cut bares, and a table of so many bytes, which has the places of the log's form
-pub record Ready (log : CheckedLog) (p : Pile) (size : ℕ) : Type 0 where
+pub record Ready (log : PassedLog) (p : Pile) (size : ℕ) : Type 0 where
   pub near : p.tip ≤ tip_limit
   pub level : cut_depth p.grade ≤ p.head
-  pub deep : p.tip < log.depth
+  pub deep : p.tip < depth_of (rows_of log.bytes.now)
   pub room : table_size (limit_of log.bytes.now) ≤ size
 
 -- the slices between head and tip

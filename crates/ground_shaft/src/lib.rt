@@ -9,7 +9,7 @@ ghost use Rattle.ground_shaft.specs.Shafts.{Ready, cut_of, shaft_of};
 
 use ground_cuts::cut_part;
 use ground_strata::Strata;
-use record_log_checks::CheckedLog;
+use record_log_checks::PassedLog;
 use record_slice_table::clear_table;
 use rules::{Pile, Soil};
 
@@ -23,7 +23,7 @@ pub struct Shaft {
 }
 
 // The part of each stratum between head and tip, cut from its top. A table has places for every shaft, so nothing counts them.
-pub fn cut_shaft(log: CheckedLog<'_>, pile: Pile, table: &mut [u8]) -> Shaft
+pub fn cut_shaft(log: PassedLog<'_>, pile: Pile, table: &mut [u8]) -> Shaft
     requires { Ready log pile (length table.old) }
     ensures shaft { (result ≡ shaft_of (rows_of log.entry.bytes.now) pile) × (result.sum ≤ sum_bound) }
     ensures table { table.new ≡ table_bytes (length table.old) (cut_of (rows_of log.entry.bytes.now) pile) }

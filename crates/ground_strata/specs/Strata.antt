@@ -3,7 +3,7 @@ use Rattle.std.specs.Prelude.{◌≡◌, false, List, ℕ, ◌+◌, ◌*◌, ◌
 use Rattle.rules.specs.Records.{row_size}
 use Rattle.rules.specs.Packed.{count_of, row_at, rows_of}
 use Rattle.rules.specs.Ground.{depth_of, same, soil_of, soil_at}
-use Rattle.record_log_checks.specs.declared.checked.CheckedLog.{CheckedLog}
+use Rattle.record_log_checks.specs.declared.checked.PassedLog.{PassedLog}
 use Rattle.ground_strata.specs.declared.StratumFound.{StratumFound}
 use Rattle.ground_strata.specs.declared.Stratum.{Stratum}
 use Rattle.ground_strata.specs.declared.Strata.{Strata}
@@ -28,11 +28,11 @@ pub record Reaches (log : List ℕ) (first top tip : ℕ) (r : StratumFound) : T
 
 -- the walk down a log's strata: row `next` begins where the next stratum does, and more than the tip lies above the log's end
 pub record Walks (s : Strata) : Type 0 where
-  pub deep : s.tip < s.log.depth
+  pub deep : s.tip < depth_of (rows_of s.log.bytes.now)
   pub top_is : s.top ≡ depth_of (take s.next (rows_of s.log.bytes.now))
 
 -- all of them are left
-abbrev pub from_ground : CheckedLog → ℕ → Strata
+abbrev pub from_ground : PassedLog → ℕ → Strata
 from_ground log tip = record { log = log; tip = tip; next = 0; top = 0 }
 
 -- x is the stratum that s begins with, and t has those below it

@@ -2,10 +2,12 @@
 #![tactic(auto)]
 
 ghost use Rattle.std.specs.Prelude.{◌≡◌, ◌+◌, ◌-◌, ◌<◌};
+ghost use Rattle.rules.specs.Packed.{rows_of};
+ghost use Rattle.rules.specs.Ground.{depth_of};
 ghost use Rattle.std.specs.Iterator.{at_most};
 ghost use Rattle.ground_strata.specs.Strata.{Begins, Reaches, Walks, Goes, from_ground};
 
-use record_log_checks::CheckedLog;
+use record_log_checks::PassedLog;
 use rules::Soil;
 
 // Its soil, the depth down to which it goes, and the row that comes next, counted from 0.
@@ -18,7 +20,7 @@ pub struct StratumFound {
 
 // Rows are taken while the soil stays the same, and none below the millimetre that the tip stands on. The log goes on below the tip,
 // so nothing asks where it ends.
-pub fn stratum_from(log: CheckedLog<'_>, first: usize, top: u64, tip: u64) -> StratumFound
+pub fn stratum_from(log: PassedLog<'_>, first: usize, top: u64, tip: u64) -> StratumFound
     requires { Begins log.bytes.now first top tip }
     ensures { Reaches log.entry.bytes.now first top tip result }
 {
@@ -49,15 +51,15 @@ pub struct Stratum {
 // What is left of a log's strata, from the ground down to the one that the tip stands on: the next one's first row and its top.
 #[derive(Drop)]
 pub struct Strata<'a> {
-    log: CheckedLog<'a>,
+    log: PassedLog<'a>,
     tip: u64,
     next: usize,
     top: u64,
 }
 
 impl<'a> Strata<'a> {
-    pub fn down_to(log: CheckedLog<'a>, tip: u64) -> Strata<'a>
-        requires { tip < log.depth }
+    pub fn down_to(log: PassedLog<'a>, tip: u64) -> Strata<'a>
+        requires { tip < depth_of (rows_of log.bytes.now) }
         ensures { result ≡ from_ground log.entry tip }
     {
         Strata {

@@ -12,7 +12,7 @@ ghost use Rattle.rules.proofs.Groups.{field_checks, content_checks};
 
 mod checked;
 
-pub use checked::CheckedLog;
+pub use checked::{CheckedLog, PassedLog};
 use record_row_ranges::{row_field, row_good};
 use record_rows::row_inside;
 use record_unused::unused_wrong;
@@ -62,11 +62,12 @@ fn check_fields(s: &[u8]) -> Result<u64, Fault>
 pub fn check_content(s: &[u8]) -> Result<CheckedLog<'_>, Fault>
     requires { 0 < limit_of s.now }
     ensures refusal { refusal_in result ≡ content_checks s.now }
-    ensures log { IfOk result (λ log. (log.bytes ≡ s.entry) × (log.depth ≡ depth_of (rows_of s.now))) }
+    ensures log { IfOk result (λ checked. (checked.log.bytes ≡ s.entry) × (checked.depth ≡ depth_of (rows_of s.now))) }
 {
     let depth = check_fields(s)?;
     if DEPTH_LIMIT < depth {
         return Err(Fault::TooDeep);
     }
-    Ok(CheckedLog { bytes: s, depth })
+    let log = PassedLog { bytes: s };
+    Ok(CheckedLog { log, depth })
 }

@@ -18,6 +18,7 @@ use Rattle.rules.specs.Checks.{log_checks, Passed}
 use Rattle.rules.specs.Faults.{refusal_in}
 use Rattle.settled.proofs.Outcomes.{one_reply, one_check, one_fault, one_row_field, one_limit}
 use Rattle.record_bits.specs.declared.Cursor.{Cursor}
+use Rattle.record_log_checks.specs.declared.checked.PassedLog.{PassedLog}
 use Rattle.record_log_checks.specs.declared.checked.CheckedLog.{CheckedLog}
 use Rattle.settled.proofs.Settled.{Settled}
 use Rattle.record_bits.proofs as record_bits
@@ -106,18 +107,21 @@ count_wrong _ _ _ h g = cc
 pub unused_wrong : Settled record_unused.unused_wrong.Kinds.ps record_unused.unused_wrong.Kinds.r record_unused.unused_wrong.Reads.Pre record_unused.unused_wrong.Reads.Learnt
 unused_wrong _ _ _ h g = cc
 
--- a log past its checks is told by its bytes and its depth
-checked : {r s : CheckedLog} → r.bytes ≡ s.bytes → r.depth ≡ s.depth → r ≡ s
+-- a log past its checks is told by its bytes, and with how deep it is by its depth too
+passed : {r s : PassedLog} → r.bytes ≡ s.bytes → r ≡ s
+passed {r} {s} b = λ i. record { bytes = b i; passed = is_prop→PathP (λ k. Passed (b k).now) (λ k. Bool-set (refuses (log_checks (b k).now)) false) r.passed s.passed i }
+
+checked : {r s : CheckedLog} → r.log.bytes ≡ s.log.bytes → r.depth ≡ s.depth → r ≡ s
+unfolding passed
 checked {r} {s} b d = λ i. record {
-  bytes = b i;
+  log = passed {r = r.log} {s = s.log} b i;
   depth = d i;
-  passed = is_prop→PathP (λ k. Passed (b k).now) (λ k. Bool-set (refuses (log_checks (b k).now)) false) r.passed s.passed i;
   deep = is_prop→PathP (λ k. d k ≡ depth_of (rows_of (b k).now)) (λ k. ℕ_set (d k) (depth_of (rows_of (b k).now))) r.deep s.deep i;
 }
 
 module _ (s : Bor (List ℕ)) (n : ℕ) where
   abbrev Is : CheckedLog → Type 0
-  Is log = (log.bytes ≡ s) × (log.depth ≡ n)
+  Is r = (r.log.bytes ≡ s) × (r.depth ≡ n)
 
   both : {r q : CheckedLog} → Is r → Is q → r ≡ q
   both x y = checked (x.0 ∙ sym y.0) (x.1 ∙ sym y.1)
@@ -128,7 +132,7 @@ module _ (s : Bor (List ℕ)) (n : ℕ) where
 pub check_content : Settled record_log_checks.check_content.Kinds.ps record_log_checks.check_content.Kinds.r record_log_checks.check_content.Reads.Pre record_log_checks.check_content.Reads.Learnt
 check_content _ b d h g = one_log _ _ b.value d.value (h.0 ∙ sym g.0) h.1 g.1
 
-pub row : Settled record_log_checks.checked.CheckedLog.row.Kinds.ps record_log_checks.checked.CheckedLog.row.Kinds.r record_log_checks.checked.CheckedLog.row.Reads.Pre record_log_checks.checked.CheckedLog.row.Reads.Learnt
+pub row : Settled record_log_checks.checked.PassedLog.row.Kinds.ps record_log_checks.checked.PassedLog.row.Kinds.r record_log_checks.checked.PassedLog.row.Reads.Pre record_log_checks.checked.PassedLog.row.Reads.Learnt
 row _ _ _ h g = cc
 
 pub read_log : Settled record_logs.read_log.Kinds.ps record_logs.read_log.Kinds.r record_logs.read_log.Reads.Pre record_logs.read_log.Reads.Learnt

@@ -9,7 +9,7 @@ use Rattle.answer_work.proofs.work_out.Goals as goal
 pub returns-then-is_err : goal.returns-then-is_err
 unfolding fresh_answer
 returns-then-is_err c =
-    let w = none_worked (rows_of c.args.log.bytes.now) _ c.args.extra _ c.work_pile-work.ensures.refusal (sym c.is_err.ensures.value ∙ c.if-is_err.true) in
+    let w = none_worked (rows_of c.args.checked.log.bytes.now) _ c.args.extra _ c.work_pile-work.ensures.refusal (sym c.is_err.ensures.value ∙ c.if-is_err.true) in
     record {
       refusal = rw (← c.take_pile.ensures) c.work_pile-work.ensures.refusal;
       worked = rw (← c.take_pile.ensures, w.0, w.1, w.2) (refl, refl);

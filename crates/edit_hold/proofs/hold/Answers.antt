@@ -6,16 +6,16 @@ use Rattle.edit_hold.proofs.HoldLaws.{room, few, held, none_held}
 use Rattle.edit_hold.proofs.hold.Goals as goal
 
 pub table_copy-old-requires : goal.table_copy-old-requires
-table_copy-old-requires c = room c.args.log.bytes.now c.args.table.now c.args.log.passed c.requires
+table_copy-old-requires c = room c.args.checked.log.bytes.now c.args.table.now c.args.checked.log.passed c.requires
 
 pub kept_count-kept-requires : goal.kept_count-kept-requires
 kept_count-kept-requires c =
-    let n = few c.args.log.bytes.now c.args.pile.now _ _ c.args.log.passed c.in-Ok.ensures.worked.1 in
-    let l = room c.args.log.bytes.now c.args.table.now c.args.log.passed c.requires in
+    let n = few c.args.checked.log.bytes.now c.args.pile.now _ _ c.args.checked.log.passed c.in-Ok.ensures.worked.1 in
+    let l = room c.args.checked.log.bytes.now c.args.table.now c.args.checked.log.passed c.requires in
     (omega (arith, n, l), omega (arith, n, l, ap (λ (t : List ℕ). length t) c.table_copy-old.ensures))
 
 pub overflow_cast-kept : goal.overflow_cast-kept
-overflow_cast-kept c = omega (arith, few c.args.log.bytes.now c.args.pile.now _ _ c.args.log.passed c.in-Ok.ensures.worked.1, c.kept_count-kept.ensures.1)
+overflow_cast-kept c = omega (arith, few c.args.checked.log.bytes.now c.args.pile.now _ _ c.args.checked.log.passed c.in-Ok.ensures.worked.1, c.kept_count-kept.ensures.1)
 
 pub returns-in-Ok : goal.returns-in-Ok
 returns-in-Ok c =

@@ -11,11 +11,11 @@ change-requires-clause-passed c = let a = allowed _ _ _ _ (ap refuses (sym c.in-
 pub change-requires-clause-brought : goal.change-requires-clause-brought
 change-requires-clause-brought c = (allowed _ _ _ _ (ap refuses (sym c.in-Ok.ensures.refusal))).row
 
-pub invariant_of-hold-clause-passed : goal.invariant_of-hold-clause-passed
-invariant_of-hold-clause-passed c = now_passed _ _ _ _ (ap refuses (sym c.in-Ok.ensures.refusal)) _ c.change.ensures
+pub invariant_of-log : goal.invariant_of-log
+invariant_of-log c = record { passed = now_passed _ _ _ _ (ap refuses (sym c.in-Ok.ensures.refusal)) _ c.change.ensures }
 
-pub invariant_of-hold-clause-deep : goal.invariant_of-hold-clause-deep
-invariant_of-hold-clause-deep c = now_deep _ _ _ _ (ap refuses (sym c.in-Ok.ensures.refusal)) _ c.change.ensures _ c.in-Ok.ensures.depth
+pub invariant_of-hold : goal.invariant_of-hold
+invariant_of-hold c = record { deep = now_deep _ _ _ _ (ap refuses (sym c.in-Ok.ensures.refusal)) _ c.change.ensures _ c.in-Ok.ensures.depth }
 
 pub hold-requires : goal.hold-requires
 hold-requires c = now_long _ _ _ _ (ap refuses (sym c.in-Ok.ensures.refusal)) _ c.change.ensures
