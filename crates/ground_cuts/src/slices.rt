@@ -23,7 +23,13 @@ pub struct Slices<'a> {
 
 impl<'a> Slices<'a> {
     #[tactic(auto, using(crate::proofs::SliceLaws::soil_left))]
-    pub(crate) fn of(rows: &'a FrictionRows, pile: Pile, soil: Soil, from: u64, end: u64) -> Slices<'a>
+    pub(crate) fn of(
+        rows: &'a FrictionRows,
+        pile: Pile,
+        soil: Soil,
+        from: u64,
+        end: u64,
+    ) -> Slices<'a>
         requires { (lowering pile.grade ≤ from) × (end < 2 ^ 16) }
         ensures { Cuttable result × (left_of result ≡ slices_in pile soil from end) × (result.at ≡ from) × (result.end ≡ end) }
     {

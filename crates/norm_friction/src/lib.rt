@@ -32,8 +32,8 @@ const ROWS: [[u8; 9]; 13] = [
 // The rows as they are printed.
 #[derive(Drop)]
 pub struct FrictionRows {
-    cells: [[u8; 9]; 13],
-    ghost printed: { cells ≡ friction_rows },
+    pub cells: [[u8; 9]; 13],
+    pub ghost printed: { cells ≡ friction_rows },
 }
 
 pub fn rows() -> FrictionRows

@@ -41,8 +41,8 @@ fn third_line(rt: &impl Print, height: u64) -> io::Result<()>
 // h/d of 4, then from 5 to 25 by two and a half.
 fn third_lines(rt: &impl Print) -> io::Result<()> {
     third_line(rt, 4000)?;
-    for i in 0..9 {
-        third_line(rt, 5000 + i * 2500)?;
+    for height in (5000..=25000).step_by(2500) {
+        third_line(rt, height)?;
     }
     Ok(())
 }
