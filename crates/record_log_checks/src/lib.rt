@@ -16,10 +16,22 @@ pub use checked::{CheckedLog, PassedLog};
 use record_row_ranges::{row_field, row_good};
 use record_rows::row_inside;
 use record_unused::unused_wrong;
-use rules::{DEPTH_LIMIT, Fault, ROW_SIZE, RowField};
+use rules::{DEPTH_LIMIT, Fault, ROW_SIZE, Refusal, RowField};
 
-// Refusal 3 of a row, counted from 0, whose field is out of range.
-pub fn row_refusal(i: usize, field: RowField) -> Fault
+// Refusal 3 of a row, counted from 0, and a field by its number.
+pub fn row_refusal(i: usize, f: u32) -> Refusal
+    requires { i < 2 ^ 8 }
+    ensures { result ≡ record { number = 3; row = i + 1; field = f } }
+{
+    Refusal {
+        number: 3,
+        row: i as u32 + 1,
+        field: f,
+    }
+}
+
+// The fault of a row, counted from 0, whose field is out of range.
+pub fn row_fault(i: usize, field: RowField) -> Fault
     requires { i < 2 ^ 8 }
     ensures { refusal_of result ≡ record { number = 3; row = i + 1; field = row_field_number field } }
 {
@@ -37,7 +49,7 @@ fn check_rows(s: &[u8], n: u8) -> Result<u64, Fault>
     for i in 0..usize::from(n) {
         let row = row_inside(s, 1 + i * ROW_SIZE);
         if !row_good(row) {
-            return Err(row_refusal(i, row_field(row).unwrap()));
+            return Err(row_fault(i, row_field(row).unwrap()));
         }
         depth += u64::from(row.thickness);
     }

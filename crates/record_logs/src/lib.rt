@@ -9,7 +9,7 @@ ghost use Rattle.rules.specs.Faults.{refusal_in};
 ghost use Rattle.rules.specs.Reading.{no_log, read_log};
 
 use record_lengths::row_limit;
-use record_log_checks::row_refusal;
+use record_log_checks::row_fault;
 use record_row_ranges::row_field;
 use record_rows::row_inside;
 use record_unused::unused_wrong;
@@ -35,7 +35,7 @@ fn read_rows(s: &[u8], log: &mut Log) -> Result<(), Fault>
     for i in 0..usize::from(s[0]) {
         let row = row_inside(s, 1 + i * ROW_SIZE);
         if let Some(field) = row_field(row) {
-            return Err(row_refusal(i, field));
+            return Err(row_fault(i, field));
         }
         log.rows[i] = row;
     }

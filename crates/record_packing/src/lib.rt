@@ -11,7 +11,7 @@ ghost use Rattle.rules.specs.Reading.{rows_zero, unused_fields, pack_log_check, 
 
 use base_copies::copy_in;
 use record_lengths::row_limit;
-use record_log_checks::row_refusal;
+use record_log_checks::row_fault;
 use record_row_bytes::row_bytes;
 use record_row_ranges::{row_field, row_zero};
 use record_unused::count_wrong;
@@ -31,7 +31,7 @@ fn rows_refusal(rows: &[Row]) -> Result<(), Fault>
 {
     for (i, row) in rows.iter().enumerate() {
         if let Some(field) = row_field(*row) {
-            return Err(row_refusal(i, field));
+            return Err(row_fault(i, field));
         }
     }
     Ok(())

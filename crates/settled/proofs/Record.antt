@@ -99,7 +99,10 @@ pub lengths_wrong : Settled record_lengths.lengths_wrong.Kinds.ps record_lengths
 lengths_wrong _ _ _ h g = cc
 
 pub row_refusal : Settled record_log_checks.row_refusal.Kinds.ps record_log_checks.row_refusal.Kinds.r record_log_checks.row_refusal.Reads.Pre record_log_checks.row_refusal.Reads.Learnt
-row_refusal _ b d h g = one_fault b.value d.value (h ∙ sym g)
+row_refusal _ _ _ h g = cc
+
+pub row_fault : Settled record_log_checks.row_fault.Kinds.ps record_log_checks.row_fault.Kinds.r record_log_checks.row_fault.Reads.Pre record_log_checks.row_fault.Reads.Learnt
+row_fault _ b d h g = one_fault b.value d.value (h ∙ sym g)
 
 pub count_wrong : Settled record_unused.count_wrong.Kinds.ps record_unused.count_wrong.Kinds.r record_unused.count_wrong.Reads.Pre record_unused.count_wrong.Reads.Learnt
 count_wrong _ _ _ h g = cc

@@ -6,7 +6,7 @@ use Rattle.record_log_checks.proofs.check_rows.Goals as goal
 
 pub returns-then-not-row_good-clause-refusal : goal.returns-then-not-row_good-clause-refusal
 returns-then-not-row_good-clause-refusal c =
-    c.row_refusal.ensures ∙ checking_wrong _ _ _ _ c.loop-i.invariant _ (omega arith) c.row_inside-row.ensures _ (search rules)
+    c.row_fault.ensures ∙ checking_wrong _ _ _ _ c.loop-i.invariant _ (omega arith) c.row_inside-row.ensures _ (search rules)
 
 pub loop-i-preserved : goal.loop-i-preserved
 loop-i-preserved c =

@@ -10,7 +10,7 @@ loop-i-init c = reading_start _ _ c.requires.0 c.requires.1 refl (ap (λ (l : Lo
 
 pub returns-in-Some-clause-refusal : goal.returns-in-Some-clause-refusal
 returns-in-Some-clause-refusal c =
-    c.row_refusal.ensures ∙ reading_wrong _ _ _ c.loop-i.invariant _ (omega arith) c.row_inside-row.ensures _ c.in-Some.ensures
+    c.row_fault.ensures ∙ reading_wrong _ _ _ c.loop-i.invariant _ (omega arith) c.row_inside-row.ensures _ c.in-Some.ensures
 
 pub loop-i-preserved : goal.loop-i-preserved
 loop-i-preserved c = reading_more _ _ _ c.loop-i.invariant _ (omega arith) c.row_inside-row.ensures c.in_default.ensures
