@@ -30,7 +30,7 @@ const ROWS: [[u8; 9]; 13] = [
 ];
 
 // The rows as they are printed.
-#[derive(Drop)]
+#[derive(Clone, Copy)]
 pub struct FrictionRows {
     pub cells: [[u8; 9]; 13],
     pub ghost printed: { cells ≡ friction_rows },
