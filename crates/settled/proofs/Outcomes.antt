@@ -28,21 +28,21 @@ pile_field_from n =
     (pick (eqb n 3) (Some pile_field.B)
     (pick (eqb n 4) (Some pile_field.Zero) None)))
 
-abbrev row_fault : ℕ → Option RowField → Option Fault
-row_fault k None = None
-row_fault k (Some field) = Some (Row k field)
+abbrev fault_of_row : ℕ → Option RowField → Option Fault
+fault_of_row k None = None
+fault_of_row k (Some field) = Some (Row k field)
 
-abbrev section_fault : Option PileField → Option Fault
-section_fault None = None
-section_fault (Some field) = Some (Section field)
+abbrev fault_of_section : Option PileField → Option Fault
+fault_of_section None = None
+fault_of_section (Some field) = Some (Section field)
 
 abbrev fault_from : Refusal → Option Fault
 fault_from r =
     pick (eqb r.number 1) (Some Length)
     (pick (eqb r.number 2) (Some Unused)
-    (pick (eqb r.number 3) (row_fault r.row (row_field_from r.field))
+    (pick (eqb r.number 3) (fault_of_row r.row (row_field_from r.field))
     (pick (eqb r.number 4) (Some TooDeep)
-    (pick (eqb r.number 5) (section_fault (pile_field_from r.field))
+    (pick (eqb r.number 5) (fault_of_section (pile_field_from r.field))
     (pick (eqb r.number 6) (Some Method)
     (pick (eqb r.number 7) (Some Depths)
     (pick (eqb r.number 8) (Some LogShort)
